@@ -1,0 +1,5 @@
+pub mod Bits
+pub mod Coding
+pub mod Orders
+pub mod Reading
+pub mod Deciding

@@ -1,0 +1,21 @@
+-- Automata that read columns, as total functions on numbers.
+use Prim.Native.Nat.{ℕ}
+use mathlib.Core.Bool.{Bool}
+use mathlib.Core.List.{List, [], _∷_}
+
+-- A column over `places` sets leads from state to state; `states` says how many states there are, 0 and on.
+pub record Automaton : Type 0 where
+  pub places : ℕ
+  pub states : ℕ
+  pub start : ℕ
+  pub step : ℕ → ℕ → ℕ
+  pub accepts : ℕ → Bool
+
+-- the state that the run over a word comes to, from state s
+abbrev pub run : (ℕ → ℕ → ℕ) → ℕ → List ℕ → ℕ
+run step s [] = s
+run step s (c ∷ w) = run step (step s c) w
+
+-- whether the run over a word, from the start, ends in an accepting state
+abbrev pub accepted : Automaton → List ℕ → Bool
+accepted a w = a .accepts (run (a .step) (a .start) w)

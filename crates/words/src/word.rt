@@ -1,0 +1,48 @@
+//! Words of columns: which column is out of range, and what set a word codes.
+ghost use mathlib.Core.Path.{_≡_};
+ghost use Prim.Native.Nat.{_^_, _<_, _≤_};
+ghost use lib.ListN.{length, getD, take};
+ghost use Rattle.std.specs.Options.{Cases};
+ghost use Rattle.std.specs.Orderings.{Decides};
+ghost use Rattle.words.specs.Sets.{bit};
+ghost use Rattle.words.specs.Words.{Columns, coded};
+
+/// Whether bit `set` of a column is 1, so that the column's position is in that set.
+pub fn in_set(column: u8, set: u8) -> bool
+    ensures { λ r. ⌜ Decides r (bit set column ≡ 1) ⌝ }
+{
+    set < 8 && (column >> set) & 1 == 1
+}
+
+/// Whether a byte is a column over so many sets.
+pub fn is_column(byte: u8, sets: u8) -> bool
+    ensures { λ r. ⌜ Decides r (byte < 2 ^ sets) ⌝ }
+{
+    sets >= 8 || byte >> sets == 0
+}
+
+/// The position of the first column that is not below 2^sets, if there is one.
+pub fn first_outside(word: &[u8], sets: u8) -> Option<usize>
+    ensures { λ r. ⌜ Cases r (Columns sets (now (word .entry))) (λ i. (i < length (now (word .entry))) × (2 ^ sets ≤ getD (now (word .entry)) i 0) × Columns sets (take i (now (word .entry)))) ⌝ }
+{
+    for (i, column) in word.iter().enumerate() {
+        if !is_column(*column, sets) {
+            return Some(i);
+        }
+    }
+    None
+}
+
+/// The set that a word codes, as a number; none where the word has more than 64 columns, which might not fit.
+pub fn number(word: &[u8], set: u8) -> Option<u64>
+    ensures { λ r. ⌜ Cases r (64 < length (now (word .entry))) (λ n. (n ≡ coded set (now (word .entry))) × (length (now (word .entry)) ≤ 64)) ⌝ }
+{
+    if word.len() > 64 {
+        return None;
+    }
+    let mut sum: u64 = 0;
+    for i in (0..word.len()).rev() {
+        sum = 2 * sum + u64::from(in_set(word[i], set));
+    }
+    Some(sum)
+}
