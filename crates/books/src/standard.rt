@@ -15,7 +15,15 @@ use words::Rows;
 #[derive(Clone, Copy)]
 pub struct Standard;
 
+impl Standard {
+    /// The number of `sum`: first + second = third.
+    pub const SUM: Predicate = 4;
+}
+
 const COUNT: Predicate = 6;
+
+// Each run begins in the first row.
+const START: State = 0;
 
 const NAMES: [[u8; 3]; 6] = [*b"sub", *b"one", *b"suc", *b"les", *b"sum", *b"emp"];
 
@@ -136,7 +144,7 @@ pub impl Book for Standard as StandardBook {
     }
 
     fn start(&self, _p: Predicate) -> State {
-        0
+        START
     }
 
     fn step(&self, p: Predicate, s: State, column: u8) -> State {

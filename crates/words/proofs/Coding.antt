@@ -2,7 +2,8 @@
 use Prim.Native.Nat.{ℕ, zero, suc, _+_, _-_, _*_, _/_, _%_, _^_, _≤_, _<_}
 use native.Mathlib.Omega.{arith}
 use native.Mathlib.Nat.{le-refl, pow-suc}
-use lib.Arith.{half-le}
+use lib.Arith.{half-le, mod-mul}
+use lib.Pow.{pow-pos}
 use lib.ListN.{getD, length, take, drop, replicate}
 use mathlib.Core.Path.{_≡_, refl, sym, ap, subst, _∙_}
 use mathlib.Core.Logic.{_↔_, ⊎-elim}
@@ -26,6 +27,16 @@ pub coded-below : (i : ℕ) (w : List ℕ) → coded i w < 2 ^ length w
 coded-below i [] = omega arith
 coded-below i (c ∷ w) = omega (arith, coded-below i w, bit-small i c, pow-suc 2 (length w))
 
+-- a word whose columns have, at bit i, the members of s codes as much of s as it is long
+pub coded-by-bits : (i : ℕ) (w : List ℕ) (s : ℕ) → ((p : ℕ) → p < length w → bit i (getD w p 0) ≡ bit p s) → coded i w ≡ s % 2 ^ length w
+coded-by-bits i [] s same = omega arith
+coded-by-bits i (c ∷ w) s same =
+    let low : bit i c ≡ s % 2 = same 0 (omega arith) in
+    let rest : coded i w ≡ s / 2 % 2 ^ length w = coded-by-bits i w (s / 2) (λ p h. same (suc p) (omega arith)) in
+    let whole : s % (2 ^ length w * 2) ≡ (s / 2 % 2 ^ length w) * 2 + s % 2 = mod-mul s (pow-pos (length w)) (omega arith) in
+    let long : s % 2 ^ suc (length w) ≡ s % (2 ^ length w * 2) = ap (λ m. s % m) (pow-suc 2 (length w)) in
+    omega arith
+
 -- the columns from k - 1 on, where those from k on are known
 pub coded-from : (i : ℕ) (w : List ℕ) (k : ℕ) → 0 < k → k ≤ length w → coded i (drop (k - 1) w) ≡ bit i (getD w (k - 1) 0) + 2 * coded i (drop k w)
 coded-from i w k some within =
@@ -34,6 +45,15 @@ coded-from i w k some within =
     ap (coded i) (more ∙ ap (λ j. getD w (k - 1) 0 ∷ drop j w) back)
 
 -- ---- columns in range
+
+pub columns-at : (n : ℕ) (w : List ℕ) (i : ℕ) → Columns n w → i < length w → getD w i 0 < 2 ^ n
+columns-at n [] i cs h = absurd (omega arith)
+columns-at n (c ∷ w) zero cs h = cs .0
+columns-at n (c ∷ w) (suc i) cs h = columns-at n w i (cs .1) (omega arith)
+
+pub columns-by : (n : ℕ) (w : List ℕ) → ((i : ℕ) → i < length w → getD w i 0 < 2 ^ n) → Columns n w
+columns-by n [] all = tt
+columns-by n (c ∷ w) all = (all 0 (omega arith), columns-by n w (λ i h. all (suc i) (omega arith)))
 
 pub columns-push : (n : ℕ) (w : List ℕ) (c : ℕ) → Columns n w → c < 2 ^ n → Columns n (w ++ c ∷ [])
 columns-push n [] c cs h = (h, tt)

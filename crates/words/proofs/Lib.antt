@@ -3,3 +3,4 @@ pub mod Coding
 pub mod Orders
 pub mod Reading
 pub mod Deciding
+pub mod Runs

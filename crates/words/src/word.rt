@@ -4,14 +4,21 @@ ghost use Prim.Native.Nat.{_^_, _<_, _≤_};
 ghost use lib.ListN.{length, getD, take};
 ghost use Rattle.std.specs.Options.{Cases};
 ghost use Rattle.std.specs.Orderings.{Decides};
-ghost use Rattle.words.specs.Sets.{bit};
+ghost use Rattle.words.specs.Sets.{bit, Member};
 ghost use Rattle.words.specs.Words.{Columns, coded};
+
+/// Whether a position is a member of a set.
+pub fn is_member(set: u64, position: usize) -> bool
+    ensures { λ r. ⌜ Decides r (Member position set) ⌝ }
+{
+    position < 64 && (set >> position) & 1 == 1
+}
 
 /// Whether bit `set` of a column is 1, so that the column's position is in that set.
 pub fn in_set(column: u8, set: u8) -> bool
     ensures { λ r. ⌜ Decides r (bit set column ≡ 1) ⌝ }
 {
-    set < 8 && (column >> set) & 1 == 1
+    is_member(u64::from(column), usize::from(set))
 }
 
 /// Whether a byte is a column over so many sets.
