@@ -59,6 +59,14 @@ pub columns-push : (n : ℕ) (w : List ℕ) (c : ℕ) → Columns n w → c < 2 
 columns-push n [] c cs h = (h, tt)
 columns-push n (d ∷ w) c cs h = (cs .0, columns-push n w c (cs .1) h)
 
+pub columns-front : (n : ℕ) (w : List ℕ) (c : ℕ) → Columns n (w ++ c ∷ []) → Columns n w
+columns-front n [] c cs = tt
+columns-front n (d ∷ w) c cs = (cs .0, columns-front n w c (cs .1))
+
+pub columns-last : (n : ℕ) (w : List ℕ) (c : ℕ) → Columns n (w ++ c ∷ []) → c < 2 ^ n
+columns-last n [] c cs = cs .0
+columns-last n (d ∷ w) c cs = columns-last n w c (cs .1)
+
 -- one column more of a word
 pub columns-more : (n : ℕ) (w : List ℕ) (i : ℕ) → i < length w → Columns n (take i w) → getD w i 0 < 2 ^ n → Columns n (take (i + 1) w)
 columns-more n w i within cs h =

@@ -4,3 +4,6 @@ pub mod Orders
 pub mod Reading
 pub mod Deciding
 pub mod Runs
+pub mod Numbering
+pub mod Counts
+pub mod TableLaws

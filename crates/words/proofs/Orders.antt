@@ -1,12 +1,13 @@
 -- The order of words is strict, transitive and total. Of the order of columns only these three facts are used.
-use Prim.Native.Nat.{ℕ, zero, suc, _≤_, _<_}
+use Prim.Native.Nat.{ℕ, zero, suc, _+_, _^_, _≤_, _<_}
 use native.Mathlib.Omega.{arith}
 use lib.ListN.{length}
-use mathlib.Core.Path.{_≡_, refl, sym, ap₂, subst, _∙_}
+use mathlib.Core.Path.{_≡_, refl, sym, ap, ap₂, subst, _∙_}
 use mathlib.Core.Logic.{_⊎_, inl, inr}
-use mathlib.Core.List.{List, [], _∷_}
+use mathlib.Core.List.{List, [], _∷_, _++_}
 use Rattle.std.proofs.shelf.Tests.{cases-order}
-use Rattle.words.specs.Order.{Before, Leads, Precedes}
+use Rattle.std.proofs.shelf.Lists.{length-push}
+use Rattle.words.specs.Order.{Before, Leads, Precedes, nth-column, column-place}
 use Rattle.words.specs.Laws.{WordOrder}
 
 -- ---- columns
@@ -52,11 +53,11 @@ leads-total (c ∷ w) (d ∷ v) e = heads (before-total c d) (leads-total w v (o
 
 -- ---- all words
 
-never : (w : List ℕ) → Precedes w w → ⊥
+pub never : (w : List ℕ) → Precedes w w → ⊥
 never w (inl h) = omega arith
 never w (inr h) = leads-never w (h .1)
 
-chain : (u w v : List ℕ) → Precedes u w → Precedes w v → Precedes u v
+pub chain : (u w v : List ℕ) → Precedes u w → Precedes w v → Precedes u v
 chain u w v (inl h) (inl k) = inl (omega arith)
 chain u w v (inl h) (inr k) = inl (omega arith)
 chain u w v (inr h) (inl k) = inl (omega arith)
@@ -77,3 +78,43 @@ total w v = lengths (cases-order (length w) (length v))
 
 pub word-order : WordOrder
 word-order = record { never = never; chain = chain; total = total }
+
+-- ---- one column more at the end
+
+leads-append : (u v x y : List ℕ) → Leads u v → Leads (u ++ x) (v ++ y)
+leads-append [] v x y h = absurd h
+leads-append (c ∷ u) [] x y h = absurd h
+leads-append (c ∷ u) (d ∷ v) x y (inl b) = inl b
+leads-append (c ∷ u) (d ∷ v) x y (inr h) = inr (h .0, leads-append u v x y (h .1))
+
+leads-last : (u : List ℕ) (a b : ℕ) → Before a b → Leads (u ++ a ∷ []) (u ++ b ∷ [])
+leads-last [] a b h = inl h
+leads-last (c ∷ u) a b h = inr (refl, leads-last u a b h)
+
+pub push-before : (u v : List ℕ) (a b : ℕ) → Precedes u v → Precedes (u ++ a ∷ []) (v ++ b ∷ [])
+push-before u v a b (inl h) = inl (omega (arith, length-push u a, length-push v b))
+push-before u v a b (inr h) =
+    inr (length-push u a ∙ ap (λ k. k + 1) (h .0) ∙ sym (length-push v b), leads-append u v (a ∷ []) (b ∷ []) (h .1))
+
+pub push-same : (u : List ℕ) (a b : ℕ) → Before a b → Precedes (u ++ a ∷ []) (u ++ b ∷ [])
+push-same u a b h = inr (length-push u a ∙ sym (length-push u b), leads-last u a b h)
+
+pub nil-before : (u : List ℕ) (a : ℕ) → Precedes [] (u ++ a ∷ [])
+nil-before u a = inl (omega (arith, length-push u a))
+
+-- ---- the columns in their order
+
+pub nth-below : (n k : ℕ) → k < 2 ^ n → nth-column n k < 2 ^ n
+nth-below n k h = h
+
+pub nth-ordered : (n j k : ℕ) → j < k → k < 2 ^ n → Before (nth-column n j) (nth-column n k)
+nth-ordered n j k h within = h
+
+pub place-below : (n c : ℕ) → c < 2 ^ n → column-place n c < 2 ^ n
+place-below n c h = h
+
+pub nth-place : (n c : ℕ) → c < 2 ^ n → nth-column n (column-place n c) ≡ c
+nth-place n c h = refl
+
+pub place-nth : (n k : ℕ) → k < 2 ^ n → column-place n (nth-column n k) ≡ k
+place-nth n k h = refl

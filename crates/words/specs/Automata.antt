@@ -12,7 +12,7 @@ pub record Automaton : Type 0 where
   pub accepts : ℕ → Bool
 
 -- the state that the run over a word comes to, from state s
-abbrev pub run : (ℕ → ℕ → ℕ) → ℕ → List ℕ → ℕ
+abbrev pub run : {S : Type 0} → (S → ℕ → S) → S → List ℕ → S
 run step s [] = s
 run step s (c ∷ w) = run step (step s c) w
 

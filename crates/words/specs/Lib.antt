@@ -4,4 +4,7 @@ pub mod Order
 pub mod Relations
 pub mod Automata
 pub mod Rows
+pub mod Links
+pub mod Residuals
+pub mod TableOf
 pub mod Laws
