@@ -7,3 +7,4 @@ pub mod Runs
 pub mod Numbering
 pub mod Counts
 pub mod TableLaws
+pub mod Charting

@@ -31,14 +31,11 @@ trace-enough parent column met falls (suc f) (suc g) (suc j) hf hg within =
 later-push : (u v : List ℕ) (a b : ℕ) → Precedes u v → NotLater (u ++ a ∷ []) (v ++ b ∷ [])
 later-push u v a b h = inr (push-before u v a b h)
 
-module _ (n met : ℕ) (next : ℕ → ℕ → ℕ) (parent column : ℕ → ℕ)
-    (some : 1 ≤ met)
-    (stays : (j c : ℕ) → j < met → c < 2 ^ n → next j c < met)
+-- ---- trails, where each state but the first has a lower parent
+
+module _ (n met : ℕ) (parent column : ℕ → ℕ)
     (falls : (j : ℕ) → 0 < j → j < met → parent j < j)
     (fits : (j : ℕ) → 0 < j → j < met → column j < 2 ^ n)
-    (joins : (j : ℕ) → 0 < j → j < met → next (parent j) (column j) ≡ j)
-    (least : (j c : ℕ) → j < met → c < 2 ^ n → 0 < next j c → PairNotAfter (parent (next j c)) (column (next j c)) j c)
-    (rising : (i j : ℕ) → 0 < i → i < j → j < met → PairBefore (parent i) (column i) (parent j) (column j))
     where
   -- the trail of a state is its parent's, and the column that met it
   pub trail-step : (j : ℕ) → 0 < j → j < met → trail parent column j ≡ trail parent column (parent j) ++ column j ∷ []
@@ -46,19 +43,6 @@ module _ (n met : ℕ) (next : ℕ → ℕ → ℕ) (parent column : ℕ → ℕ
   trail-step (suc j) h within =
       let low : parent (suc j) < suc j = falls (suc j) h within in
       ap (λ w. w ++ column (suc j) ∷ []) (trace-enough parent column met falls j (parent (suc j)) (parent (suc j)) (omega arith) (omega arith) (omega arith))
-
-  trail-reaches : (f j : ℕ) → j ≤ f → j < met → run next 0 (trail parent column j) ≡ j
-  trail-reaches f zero hf within = refl
-  trail-reaches zero (suc j) hf within = absurd (omega arith)
-  trail-reaches (suc f) (suc j) hf within =
-      let low : parent (suc j) < suc j = falls (suc j) (omega arith) within in
-      ap (run next 0) (trail-step (suc j) (omega arith) within)
-      ∙ run-push next 0 (trail parent column (parent (suc j))) (column (suc j))
-      ∙ ap (λ s. next s (column (suc j))) (trail-reaches f (parent (suc j)) (omega arith) (omega arith))
-      ∙ joins (suc j) (omega arith) within
-
-  pub trail-leads : (j : ℕ) → j < met → run next 0 (trail parent column j) ≡ j
-  trail-leads j within = trail-reaches j j (le-refl j) within
 
   trail-fits : (f j : ℕ) → j ≤ f → j < met → Columns n (trail parent column j)
   trail-fits f zero hf within = tt
@@ -72,6 +56,31 @@ module _ (n met : ℕ) (next : ℕ → ℕ → ℕ) (parent column : ℕ → ℕ
   pub trail-columns : (j : ℕ) → j < met → Columns n (trail parent column j)
   trail-columns j within = trail-fits j j (le-refl j) within
 
+  -- where the states are made as the links say, the trail of a state leads to it
+  module _ {S : Type 0} (step : S → ℕ → S) (at : ℕ → S) (joins : (j : ℕ) → 0 < j → j < met → at j ≡ step (at (parent j)) (column j)) where
+    trail-reaches : (f j : ℕ) → j ≤ f → j < met → run step (at 0) (trail parent column j) ≡ at j
+    trail-reaches f zero hf within = refl
+    trail-reaches zero (suc j) hf within = absurd (omega arith)
+    trail-reaches (suc f) (suc j) hf within =
+        let low : parent (suc j) < suc j = falls (suc j) (omega arith) within in
+        ap (run step (at 0)) (trail-step (suc j) (omega arith) within)
+        ∙ run-push step (at 0) (trail parent column (parent (suc j))) (column (suc j))
+        ∙ ap (λ s. step s (column (suc j))) (trail-reaches f (parent (suc j)) (omega arith) (omega arith))
+        ∙ sym (joins (suc j) (omega arith) within)
+
+    pub trail-leads : (j : ℕ) → j < met → run step (at 0) (trail parent column j) ≡ at j
+    trail-leads j within = trail-reaches j j (le-refl j) within
+
+-- ---- where besides both were met in order
+
+module _ (n met : ℕ) (next : ℕ → ℕ → ℕ) (parent column : ℕ → ℕ)
+    (some : 1 ≤ met)
+    (stays : (j c : ℕ) → j < met → c < 2 ^ n → next j c < met)
+    (falls : (j : ℕ) → 0 < j → j < met → parent j < j)
+    (fits : (j : ℕ) → 0 < j → j < met → column j < 2 ^ n)
+    (least : (j c : ℕ) → j < met → c < 2 ^ n → 0 < next j c → PairNotAfter (parent (next j c)) (column (next j c)) j c)
+    (rising : (i j : ℕ) → 0 < i → i < j → j < met → PairBefore (parent i) (column i) (parent j) (column j))
+    where
   -- ---- the trails are in order
 
   -- a pair in order gives trails in order
@@ -79,18 +88,18 @@ module _ (n met : ℕ) (next : ℕ → ℕ → ℕ) (parent column : ℕ → ℕ
     → PairBefore (parent i) (column i) (parent j) (column j) → Precedes (trail parent column i) (trail parent column j)
   pairs i j hi wi hj wj below (inl lower) =
       let low : parent j < j = falls j hj wj in
-      subst (λ u. Precedes u (trail parent column j)) (sym (trail-step i hi wi))
-        (subst (λ v. Precedes (trail parent column (parent i) ++ column i ∷ []) v) (sym (trail-step j hj wj))
+      subst (λ u. Precedes u (trail parent column j)) (sym (trail-step n met parent column falls fits i hi wi))
+        (subst (λ v. Precedes (trail parent column (parent i) ++ column i ∷ []) v) (sym (trail-step n met parent column falls fits j hj wj))
           (push-before (trail parent column (parent i)) (trail parent column (parent j)) (column i) (column j) (below (parent i) (parent j) lower low (omega arith))))
   pairs i j hi wi hj wj below (inr level) =
-      subst (λ u. Precedes u (trail parent column j)) (sym (trail-step i hi wi ∙ ap (λ p. trail parent column p ++ column i ∷ []) (level .0)))
-        (subst (λ v. Precedes (trail parent column (parent j) ++ column i ∷ []) v) (sym (trail-step j hj wj))
+      subst (λ u. Precedes u (trail parent column j)) (sym (trail-step n met parent column falls fits i hi wi ∙ ap (λ p. trail parent column p ++ column i ∷ []) (level .0)))
+        (subst (λ v. Precedes (trail parent column (parent j) ++ column i ∷ []) v) (sym (trail-step n met parent column falls fits j hj wj))
           (push-same (trail parent column (parent j)) (column i) (column j) (level .1)))
 
   trails : (f i j : ℕ) → j ≤ f → i < j → j < met → Precedes (trail parent column i) (trail parent column j)
   trails zero i j hf h within = absurd (omega arith)
   trails (suc f) zero j hf h within =
-      subst (Precedes []) (sym (trail-step j h within)) (nil-before (trail parent column (parent j)) (column j))
+      subst (Precedes []) (sym (trail-step n met parent column falls fits j h within)) (nil-before (trail parent column (parent j)) (column j))
   trails (suc f) (suc i) j hf h within =
       pairs (suc i) j (omega arith) (omega arith) (omega arith) within
         (λ a b l lj wb. trails f a b (omega arith) l wb) (rising (suc i) j (omega arith) h within)
@@ -103,7 +112,7 @@ module _ (n met : ℕ) (next : ℕ → ℕ → ℕ) (parent column : ℕ → ℕ
   -- one column more, where the trail of j is not later than u
   pushed : (k j c : ℕ) (u : List ℕ) → 0 < k → k < met → j < met → PairNotAfter (parent k) (column k) j c → NotLater (trail parent column j) u
     → NotLater (trail parent column k) (u ++ c ∷ [])
-  pushed k j c u hk wk wj pair early = subst (λ x. NotLater x (u ++ c ∷ [])) (sym (trail-step k hk wk)) (go pair early)
+  pushed k j c u hk wk wj pair early = subst (λ x. NotLater x (u ++ c ∷ [])) (sym (trail-step n met parent column falls fits k hk wk)) (go pair early)
     where
       go : PairNotAfter (parent k) (column k) j c → NotLater (trail parent column j) u → NotLater (trail parent column (parent k) ++ column k ∷ []) (u ++ c ∷ [])
       go (inl (inl lower)) (inl e) =

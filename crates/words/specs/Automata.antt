@@ -1,6 +1,7 @@
 -- Automata that read columns, as total functions on numbers.
 use Prim.Native.Nat.{ℕ}
 use mathlib.Core.Bool.{Bool}
+use mathlib.Core.Path.{_≡_}
 use mathlib.Core.List.{List, [], _∷_}
 
 -- A column over `places` sets leads from state to state; `states` says how many states there are, 0 and on.
@@ -11,6 +12,12 @@ pub record Automaton : Type 0 where
   pub step : ℕ → ℕ → ℕ
   pub accepts : ℕ → Bool
 
+-- An automaton over states of any type: where it starts, where a column leads, and which states accept.
+pub record Moves (S : Type 0) : Type 0 where
+  pub start : S
+  pub next : S → ℕ → S
+  pub final : S → Bool
+
 -- the state that the run over a word comes to, from state s
 abbrev pub run : {S : Type 0} → (S → ℕ → S) → S → List ℕ → S
 run step s [] = s
@@ -19,3 +26,13 @@ run step s (c ∷ w) = run step (step s c) w
 -- whether the run over a word, from the start, ends in an accepting state
 abbrev pub accepted : Automaton → List ℕ → Bool
 accepted a w = a .accepts (run (a .step) (a .start) w)
+
+-- the state to which a word leads, whether it accepts, and whether two words lead to the same state
+abbrev pub reach : {S : Type 0} → Moves S → List ℕ → S
+reach m w = run (m .next) (m .start) w
+
+abbrev pub language : {S : Type 0} → Moves S → List ℕ → Bool
+language m w = m .final (reach m w)
+
+abbrev pub SameReach : {S : Type 0} → Moves S → List ℕ → List ℕ → Type 0
+SameReach m u w = reach m u ≡ reach m w
