@@ -8,3 +8,4 @@ pub mod Numbering
 pub mod Counts
 pub mod TableLaws
 pub mod Charting
+pub mod Merging

@@ -5,10 +5,15 @@ use mathlib.Core.Path.{_≡_}
 use mathlib.Core.Bool.{Bool}
 use mathlib.Core.List.{List, _++_}
 use Rattle.words.specs.Words.{Columns}
+use Rattle.words.specs.Automata.{Automaton, run}
 
 -- u and w have the same residual: the same words complete them to words of the language
 abbrev pub SameResidual : ℕ → (List ℕ → Bool) → List ℕ → List ℕ → Type 0
 SameResidual n L u w = (v : List ℕ) → Columns n v → L (u ++ v) ≡ L (w ++ v)
+
+-- two states of an automaton are left by the same words to acceptance
+abbrev pub SameFrom : ℕ → Automaton → ℕ → ℕ → Type 0
+SameFrom n a s t = (v : List ℕ) → Columns n v → a .accepts (run (a .step) s v) ≡ a .accepts (run (a .step) t v)
 
 -- sameness that is an equality
 pub record Equality (Same : List ℕ → List ℕ → Type 0) : Type 0 where
