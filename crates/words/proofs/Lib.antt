@@ -9,3 +9,4 @@ pub mod Counts
 pub mod TableLaws
 pub mod Charting
 pub mod Merging
+pub mod Cells

@@ -5,10 +5,13 @@ mod word;
 
 pub use laws::laws_of_words;
 pub use rows::Rows;
+pub use rows::cell;
+pub use rows::put;
 pub use word::first_outside;
 pub use word::in_set;
 pub use word::is_column;
 pub use word::is_member;
+pub use word::nth_column;
 pub use word::number;
 
 #[cfg(test)]

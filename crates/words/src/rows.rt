@@ -1,7 +1,7 @@
 //! Automata written out in rows.
 ghost use mathlib.Core.Path.{_≡_};
 ghost use Prim.Native.Nat.{_≤_};
-ghost use lib.ListN.{getD};
+ghost use lib.ListN.{getD, set};
 ghost use Rattle.words.specs.Rows.{written};
 use crate::word::is_column;
 
@@ -42,9 +42,18 @@ impl Rows<'_> {
     }
 }
 
-// The number at a place, or 0 past the end.
-fn cell(cells: &[u16], at: usize) -> u16
+/// The number at a place, or 0 past the end.
+pub fn cell(cells: &[u16], at: usize) -> u16
     ensures { λ r. ⌜ r ≡ getD (now (cells .entry)) at 0 ⌝ }
 {
     if at < cells.len() { cells[at] } else { 0 }
+}
+
+/// Writes a number at a place; past the end it writes nothing.
+pub fn put(cells: &mut [u16], at: usize, value: u16)
+    ensures { λ _. ⌜ now (cells .exit) ≡ set (now (cells .entry)) at value ⌝ }
+{
+    if at < cells.len() {
+        cells[at] = value;
+    }
 }

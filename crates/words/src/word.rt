@@ -1,10 +1,11 @@
 //! Words of columns: which column is out of range, and what set a word codes.
 ghost use mathlib.Core.Path.{_≡_};
-ghost use Prim.Native.Nat.{_^_, _<_, _≤_};
+ghost use Prim.Native.Nat.{_%_, _^_, _<_, _≤_};
 ghost use lib.ListN.{length, getD, take};
 ghost use Rattle.std.specs.Options.{Cases};
 ghost use Rattle.std.specs.Orderings.{Decides};
 ghost use Rattle.words.specs.Sets.{bit, Member};
+ghost use Rattle.words.specs.Order.{nth-column};
 ghost use Rattle.words.specs.Words.{Columns, coded};
 
 /// Whether a position is a member of a set.
@@ -26,6 +27,14 @@ pub fn is_column(byte: u8, sets: u8) -> bool
     ensures { λ r. ⌜ Decides r (byte < 2 ^ sets) ⌝ }
 {
     sets >= 8 || byte >> sets == 0
+}
+
+/// The k-th column over so many sets, in the order of columns; from 256 on they begin anew.
+pub fn nth_column(sets: u8, k: usize) -> u8
+    ensures { λ r. ⌜ r ≡ nth-column sets (k % 256) ⌝ }
+{
+    let _ = sets;
+    (k % 256) as u8
 }
 
 /// The position of the first column that is not below 2^sets, if there is one.

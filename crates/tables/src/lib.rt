@@ -1,0 +1,5 @@
+//! From any kind of state to the table of what it accepts.
+mod explore;
+mod kind;
+
+pub use kind::Kind;
