@@ -3,8 +3,10 @@ ghost use mathlib.Core.Path.{_≡_};
 ghost use Prim.Native.Nat.{ℕ, _+_, _*_, _^_, _<_, _≤_};
 ghost use lib.ListN.{length, getD};
 ghost use Rattle.std.specs.Options.{Cases};
-ghost use Rattle.tables.specs.Chart.{Chart, Meets, Extends};
+ghost use Rattle.tables.specs.Chart.{Chart, Meets, Extends, Past};
 ghost use Rattle.tables.specs.Room.{Room};
+ghost use Rattle.tables.specs.Explored.{Explores};
+ghost use Rattle.std.specs.Orderings.{Decides};
 
 use crate::kind::Kind;
 use words::nth_column;
@@ -78,7 +80,8 @@ fn explore_column<K: Kind>(
     requires here { ⌜ at < met ⌝ }
     requires few { ⌜ met ≤ budget ⌝ }
     requires left { ⌜ k < 2 ^ sets ⌝ }
-    ensures { λ r. ⌜ Extends (K·Kind .moves (now (kind .entry))) sets budget at (k + 1) met (now (rows .entry)) (now (records .exit)) (now (links .exit)) (now (rows .exit)) r ⌝ }
+    ensures chart { λ r. ⌜ Extends (K·Kind .moves (now (kind .entry))) sets budget at (k + 1) met (now (records .exit)) (now (links .exit)) (now (rows .exit)) r ⌝ }
+    ensures past { λ _. ⌜ Past sets budget (now (rows .entry)) (now (rows .exit)) ⌝ }
 {
     let columns = 1usize << sets;
     let column = nth_column(sets, k);
@@ -102,7 +105,8 @@ fn explore_row<K: Kind>(
     requires chart { ⌜ Chart (K·Kind .moves (now kind)) sets at 0 met (now records) (now links) (now rows) ⌝ }
     requires here { ⌜ at < met ⌝ }
     requires few { ⌜ met ≤ budget ⌝ }
-    ensures { λ r. ⌜ Extends (K·Kind .moves (now (kind .entry))) sets budget (at + 1) 0 met (now (rows .entry)) (now (records .exit)) (now (links .exit)) (now (rows .exit)) r ⌝ }
+    ensures chart { λ r. ⌜ Extends (K·Kind .moves (now (kind .entry))) sets budget (at + 1) 0 met (now (records .exit)) (now (links .exit)) (now (rows .exit)) r ⌝ }
+    ensures past { λ _. ⌜ Past sets budget (now (rows .entry)) (now (rows .exit)) ⌝ }
 {
     let columns = 1usize << sets;
     let mut now_met = met;
@@ -112,4 +116,55 @@ fn explore_row<K: Kind>(
     let accepts = kind.accepts(records[at]);
     put(rows, at * (columns + 1) + columns, u16::from(accepts));
     Some(now_met)
+}
+
+/// Why an exploration ended without a table.
+#[derive(Clone, Copy, PartialEq, Eq, Debug)]
+pub enum Unexplored {
+    /// There are more than 8 sets, the budget is not from 1 to 512, or some memory is too short.
+    NoRoom,
+    /// More states than the budget are reached.
+    TooMany,
+}
+
+// Whether the memory is enough for so many states over so many sets.
+fn has_room(sets: u8, budget: usize, records: usize, links: usize, rows: usize) -> bool
+    ensures { λ r. ⌜ Decides r (Room sets budget records links rows) ⌝ }
+{
+    if sets > 8 || budget < 1 || budget > 512 {
+        return false;
+    }
+    let width = (1usize << sets) + 1;
+    records >= budget && links >= 8 * budget && rows >= budget * width
+}
+
+/// Explores a kind of state, breadth first from its start, columns in their order, and writes for each state met its
+/// record, its parent and the column that met it (two links), and its row of next states with its mark.
+///
+/// Each state is sought among those met so far, so that m states over c columns cost at most m * m * c comparisons.
+pub fn explore<K: Kind>(
+    kind: &K,
+    sets: u8,
+    budget: usize,
+    records: &mut [K::State],
+    links: &mut [u16],
+    rows: &mut [u16],
+) -> Result<usize, Unexplored>
+    ensures found { λ r. ⌜ Explores (K·Kind .moves (now (kind .entry))) sets budget (now (records .entry)) (now (links .entry)) (now (rows .entry)) (now (records .exit)) (now (links .exit)) (now (rows .exit)) r ⌝ }
+    ensures past { λ _. ⌜ Past sets budget (now (rows .entry)) (now (rows .exit)) ⌝ }
+{
+    if !has_room(sets, budget, records.len(), links.len(), rows.len()) {
+        return Err(Unexplored::NoRoom);
+    }
+    records[0] = kind.start();
+    let mut met = 1;
+    let mut at = 0;
+    while at < met {
+        match explore_row(kind, sets, budget, at, met, records, links, rows) {
+            Some(more) => met = more,
+            None => return Err(Unexplored::TooMany),
+        }
+        at += 1;
+    }
+    Ok(met)
 }

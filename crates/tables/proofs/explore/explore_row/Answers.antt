@@ -22,4 +22,4 @@ returns g c =
       (getD-read (c .loop-k .records) (c .args .at) (c .index-records-at .result) within (c .index-records-at .is) (g .K·Kind .moves (c .args .kind .now) .start))
       (c .accepts-accepts .result) (c .accepts-accepts .ensures) (c .from .result) (c .from .ensures) (c .put .last .cells)
       (c .put .ensures ∙ ap (λ w. set (c .loop-k .rows) (c .args .at * (w + 1) + w) (c .from .result)) columns) in
-    (end .0, c .loop-k .inv .1, c .loop-k .inv .2, end .1 ∙ c .loop-k .inv .3)
+    record { chart = (end .0, c .loop-k .inv .1, c .loop-k .inv .2); past = end .1 ∙ c .loop-k .inv .3 }
