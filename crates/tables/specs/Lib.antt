@@ -1,3 +1,6 @@
 pub mod Room
 pub mod Chart
 pub mod Explored
+pub mod Classing
+pub mod Merged
+pub mod Numbered
