@@ -74,3 +74,12 @@ module _ (class : ℕ → ℕ) (k : ℕ) (numbers leaders : List ℕ) (kept : �
         (λ e. subst (λ x. class-of (set leaders kept k) i < class-of (set leaders kept k) x) (sym e)
           (omega (arith, leader-here, leader-same i (omega arith), old .leader-below i (omega arith)))) (below-or j kept h);
     }
+
+-- the same in memory that was written otherwise
+pub numbered-at : (class : ℕ → ℕ) (k : ℕ) (numbers leaders : List ℕ) (count : ℕ) (numbers′ leaders′ : List ℕ) (count′ : ℕ)
+  → numbers′ ≡ numbers → leaders′ ≡ leaders → count′ ≡ count
+  → Numbered class k (class-of numbers) (class-of leaders) count → Numbered class k (class-of numbers′) (class-of leaders′) count′
+numbered-at class k numbers leaders count numbers′ leaders′ count′ en el ec h =
+    subst (λ x. Numbered class k (class-of x) (class-of leaders′) count′) (sym en)
+      (subst (λ x. Numbered class k (class-of numbers) (class-of x) count′) (sym el)
+        (subst (Numbered class k (class-of numbers) (class-of leaders)) (sym ec) h))

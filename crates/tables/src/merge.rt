@@ -157,17 +157,17 @@ fn number_classes(class: &[u16], states: u16, numbers: &mut [u16], leaders: &mut
     requires room { ⌜ (states ≤ length (now numbers)) × (states ≤ length (now leaders)) ⌝ }
     ensures { λ r. ⌜ Numbered (class-of (now (class .entry))) states (class-of (now (numbers .exit))) (class-of (now (leaders .exit))) r ⌝ }
 {
-    let mut kept = 0;
+    let mut count = 0;
     for s in 0..states {
         let own = class_at(class, s);
         if own == s {
-            put(numbers, usize::from(s), kept);
-            put(leaders, usize::from(kept), s);
-            kept += 1;
+            put(numbers, usize::from(s), count);
+            put(leaders, usize::from(count), s);
+            count += 1;
         } else {
             let number = class_at(numbers, own);
             put(numbers, usize::from(s), number);
         }
     }
-    kept
+    count
 }
