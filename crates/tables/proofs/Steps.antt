@@ -178,7 +178,7 @@ module _ {S : Type 0} (m : Moves S) (n budget at k met : ℕ) (records : List S)
             (omega (arith, new .2, room .records-enough)) (omega (arith, new .2, room .links-enough)) (subst (λ c. Unmet m at c met records) column-is (new .3))),
          omega (arith, new .0), omega (arith, new .0, new .2))
 
-byte-is : (b : Bool) → boolByte b ≡ cond b 1 0
+pub byte-is : (b : Bool) → boolByte b ≡ cond b 1 0
 byte-is true = refl
 byte-is false = refl
 

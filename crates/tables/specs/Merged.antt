@@ -1,8 +1,8 @@
 -- What merging comes to: which explored states become one, and the rows of the merged states.
 use Prim.Native.Nat.{ℕ, _^_, _≤_, _<_}
 use mathlib.Core.Path.{_≡_}
+use mathlib.Core.Bool.{cond}
 use mathlib.Core.List.{List}
-use Rattle.words.specs.Automata.{Automaton}
 use Rattle.words.specs.Rows.{written, next-of, mark-of}
 use Rattle.words.specs.Residuals.{SameFrom}
 
@@ -20,5 +20,5 @@ pub record Merged (n met : ℕ) (raw : List ℕ) (kept : ℕ) (out : List ℕ) :
   pub alike : (s t : ℕ) → s < met → t < met → into s ≡ into t → SameFrom n (written n met raw) s t
   pub apart : (s t : ℕ) → s < met → t < met → SameFrom n (written n met raw) s t → into s ≡ into t
   -- the rows of the merged states
-  pub next : (k c : ℕ) → k < kept → c < 2 ^ n → next-of n out k c ≡ into (next-of n raw (low k) c)
-  pub mark : (k : ℕ) → k < kept → mark-of n out k ≡ mark-of n raw (low k)
+  pub next : (k c : ℕ) → k < kept → c < 2 ^ n → next-of n out k c ≡ into (written n met raw .step (low k) c)
+  pub mark : (k : ℕ) → k < kept → mark-of n out k ≡ cond (written n met raw .accepts (low k)) 1 0

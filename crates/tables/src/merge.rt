@@ -1,11 +1,12 @@
 //! Merging of the states that no word tells apart. A class is named by its lowest state.
 ghost use mathlib.Core.Path.{_≡_};
 ghost use mathlib.Core.Bool.{true, false};
-ghost use Prim.Native.Nat.{ℕ, _^_, _<_, _≤_};
+ghost use Prim.Native.Nat.{ℕ, _+_, _*_, _^_, _<_, _≤_};
 ghost use lib.ListN.{length, getD};
 ghost use Rattle.std.specs.Orderings.{Decides};
+ghost use Rattle.words.specs.Rows.{width};
 ghost use Rattle.words.proofs.Merging.{Lowest, Alike};
-ghost use Rattle.tables.specs.Numbered.{Numbered};
+ghost use Rattle.tables.specs.Numbered.{Numbered, Wrote, Wrote-row};
 ghost use Rattle.tables.specs.Classing.{described, class-of, Closed, Classed, Passes, Rounds, Settled, Splits};
 
 use words::Rows;
@@ -170,4 +171,31 @@ fn number_classes(class: &[u16], states: u16, numbers: &mut [u16], leaders: &mut
         }
     }
     count
+}
+
+// Writes where each column leads from a state, by the numbers of the classes.
+fn write_cells(raw: &Rows, numbers: &[u16], low: u16, out: &mut [u16], at: usize)
+    requires room { ⌜ at + 2 ^ now raw .places ≤ length (now out) ⌝ }
+    ensures { λ _. ⌜ Wrote-row (described (now (raw .entry))) (class-of (now (numbers .entry))) low (2 ^ now (raw .entry) .places) at (now (out .entry)) (now (out .exit)) ⌝ }
+{
+    let columns = 1usize << raw.places;
+    for k in 0..columns {
+        let next = raw.step(low, k as u8);
+        out[at + k] = class_at(numbers, next);
+    }
+}
+
+// Writes the rows of the merged states, each from the lowest state of its class, from `base` on.
+fn write_rows(raw: &Rows, numbers: &[u16], leaders: &[u16], count: u16, out: &mut [u16], base: usize)
+    requires room { ⌜ base + count * width (now raw .places) ≤ length (now out) ⌝ }
+    ensures { λ _. ⌜ Wrote (described (now (raw .entry))) (now (raw .entry) .places) (class-of (now (numbers .entry))) (class-of (now (leaders .entry))) count base (now (out .entry)) (now (out .exit)) ⌝ }
+{
+    let columns = 1usize << raw.places;
+    let mut at = base;
+    for j in 0..count {
+        let low = class_at(leaders, j);
+        write_cells(raw, numbers, low, out, at);
+        out[at + columns] = u16::from(raw.accepts(low));
+        at += columns + 1;
+    }
 }
