@@ -22,7 +22,7 @@ use Rattle.words.proofs.Cells.{write-here, write-there, write-past, cell-below}
 use Rattle.tables.specs.Chart.{Chart, Unmet, Meets, Extends, Past}
 use Rattle.tables.specs.Explored.{record-of}
 use Rattle.tables.specs.Room.{Room}
-use Rattle.tables.specs.declared.explore.Step.{Step}
+use Rattle.tables.specs.declared.exploration.Step.{Step}
 
 module _ {S : Type 0} (m : Moves S) (n at k met : ℕ) (records : List S) (links rows : List ℕ)
     (chart : Chart m n at k met records links rows) (here : at < met) (left : k < 2 ^ n) (v : ℕ)

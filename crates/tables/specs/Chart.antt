@@ -13,7 +13,7 @@ use Rattle.words.specs.Rows.{width, next-of, mark-of}
 use Rattle.words.specs.Links.{parent-of, column-of}
 use Rattle.words.proofs.Charting.{Charted}
 use Rattle.tables.specs.Explored.{record-of}
-use Rattle.tables.specs.declared.explore.Step.{Step}
+use Rattle.tables.specs.declared.exploration.Step.{Step}
 
 abbrev pub Chart : {S : Type 0} → Moves S → ℕ → ℕ → ℕ → ℕ → List S → List ℕ → List ℕ → Type 0
 Chart m n at k met records links rows =

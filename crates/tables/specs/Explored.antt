@@ -13,8 +13,8 @@ use Rattle.words.specs.Rows.{next-of, mark-of}
 use Rattle.words.specs.Links.{parent-of, column-of, trail}
 use Rattle.words.specs.Residuals.{Count, MoreThan}
 use Rattle.tables.specs.Room.{Room}
-use Rattle.tables.specs.declared.explore.Unexplored.{Unexplored}
-use Rattle.tables.specs.declared.explore.Unexplored.the-variants.{NoRoom, TooMany}
+use Rattle.tables.specs.declared.exploration.Unexplored.{Unexplored}
+use Rattle.tables.specs.declared.exploration.Unexplored.the-variants.{NoRoom, TooMany}
 
 -- record j, and its word through its parents
 abbrev pub record-of : {S : Type 0} → Moves S → List S → ℕ → S

@@ -4,3 +4,4 @@ pub mod Explored
 pub mod Classing
 pub mod Merged
 pub mod Numbered
+pub mod Tabulated

@@ -1,6 +1,11 @@
 //! From any kind of state to the table of what it accepts.
-mod explore;
+mod exploration;
 mod kind;
-mod merge;
+mod merging;
+mod tabulation;
 
+pub use exploration::Unexplored;
+pub use exploration::explore;
 pub use kind::Kind;
+pub use tabulation::Counts;
+pub use tabulation::tabulate;
