@@ -1,12 +1,11 @@
 -- What was explored and merged is the table of the language of the explored kind.
 use Prim.Native.Nat.{ℕ, zero, suc, _+_, _*_, _^_, _≤_, _<_}
 use native.Mathlib.Omega.{arith}
-use lib.Dec.{ltb, eqb}
 use mathlib.Core.Path.{_≡_, refl, sym, ap, subst, _∙_}
-use mathlib.Core.Bool.{Bool, true, false, _&&_, cond}
+use mathlib.Core.Bool.{cond}
 use mathlib.Core.Logic.{_⊎_, inl, inr, ⊎-elim}
 use mathlib.Core.List.{List, [], _∷_, _++_}
-use Rattle.std.proofs.shelf.Tests.{cases-lt, lt-ltb, and-from, cond-true}
+use Rattle.std.proofs.shelf.Tests.{cases-lt}
 use Rattle.words.specs.Words.{Columns}
 use Rattle.words.specs.Order.{NotLater, Precedes}
 use Rattle.words.specs.Automata.{Moves, run, reach, language}
@@ -14,6 +13,7 @@ use Rattle.words.specs.Rows.{width, written, next-of, mark-of}
 use Rattle.words.specs.Residuals.{SameResidual, SameFrom}
 use Rattle.words.specs.TableOf.{TableOf}
 use Rattle.words.proofs.Orders.{chain}
+use Rattle.words.proofs.Answering.{step-inside, accepts-inside}
 use Rattle.words.proofs.Runs.{run-append, run-push}
 use Rattle.tables.specs.Explored.{Explored, record-of, word-of}
 use Rattle.tables.specs.Merged.{Merged}
@@ -21,19 +21,13 @@ use Rattle.tables.specs.Merged.{Merged}
 module _ {S : Type 0} (m : Moves S) (n met : ℕ) (records : List S) (links raw : List ℕ) (e : Explored m n met records links raw) where
   -- within the explored states the written automaton goes as the kind does
   step-is : (s c : ℕ) → s < met → c < 2 ^ n → written n met raw .step s c ≡ next-of n raw s c
-  step-is s c hs hc =
-      cond-true (ltb s met && ltb c (2 ^ n)) (next-of n raw s c) 0 (and-from (ltb s met) (ltb c (2 ^ n)) (lt-ltb s met hs) (lt-ltb c (2 ^ n) hc))
+  step-is = step-inside n met raw
 
   pub closed-rows : (s c : ℕ) → s < met → c < 2 ^ n → written n met raw .step s c < met
   closed-rows s c hs hc = subst (λ x. x < met) (sym (step-is s c hs hc)) (e .next s c hs hc .0)
 
-  mark-tells : (b : Bool) → eqb (cond b 1 0) 1 ≡ b
-  mark-tells true = refl
-  mark-tells false = refl
-
   accepts-is : (s : ℕ) → s < met → written n met raw .accepts s ≡ m .final (record-of m records s)
-  accepts-is s h =
-      ap (λ t. t && eqb (mark-of n raw s) 1) (lt-ltb s met h) ∙ ap (λ x. eqb x 1) (e .mark s h) ∙ mark-tells (m .final (record-of m records s))
+  accepts-is s h = accepts-inside n met raw s (m .final (record-of m records s)) h (e .mark s h)
 
   side : (v : List ℕ) (s : ℕ) → s < met → Columns n v
     → (run (written n met raw .step) s v < met) × (record-of m records (run (written n met raw .step) s v) ≡ run (m .next) (record-of m records s) v)

@@ -62,3 +62,10 @@ explored-count m n met records links rows e = record {
   different = λ i j hi hj same. e .different i j hi hj (sym (e .leads i hi) ∙ same ∙ e .leads j hj);
   every = λ w cs. let x = e .every w cs in (x .0, x .1, x .2 ∙ sym (e .leads (x .0) (x .1)));
 }
+
+pub reach-equality : {S : Type 0} (m : Moves S) → Equality (SameReach m)
+reach-equality m = record {
+  itself = λ u. refl;
+  back = λ u w e. sym e;
+  chain = λ u w v e f. e ∙ f;
+}

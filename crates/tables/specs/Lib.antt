@@ -5,3 +5,4 @@ pub mod Classing
 pub mod Merged
 pub mod Numbered
 pub mod Tabulated
+pub mod Listed

@@ -59,6 +59,10 @@ pub columns-push : (n : ℕ) (w : List ℕ) (c : ℕ) → Columns n w → c < 2 
 columns-push n [] c cs h = (h, tt)
 columns-push n (d ∷ w) c cs h = (cs .0, columns-push n w c (cs .1) h)
 
+pub columns-append : (n : ℕ) (u v : List ℕ) → Columns n u → Columns n v → Columns n (u ++ v)
+columns-append n [] v cu cv = cv
+columns-append n (c ∷ u) v cu cv = (cu .0, columns-append n u v (cu .1) cv)
+
 pub columns-front : (n : ℕ) (w : List ℕ) (c : ℕ) → Columns n (w ++ c ∷ []) → Columns n w
 columns-front n [] c cs = tt
 columns-front n (d ∷ w) c cs = (cs .0, columns-front n w c (cs .1))

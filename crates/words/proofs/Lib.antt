@@ -10,3 +10,4 @@ pub mod TableLaws
 pub mod Charting
 pub mod Merging
 pub mod Cells
+pub mod Answering

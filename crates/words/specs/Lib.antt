@@ -8,3 +8,4 @@ pub mod Links
 pub mod Residuals
 pub mod TableOf
 pub mod Laws
+pub mod TableLaws

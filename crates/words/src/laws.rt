@@ -1,5 +1,6 @@
-//! The theorems about sets and words, on the contract of a function that a program can call.
+//! The theorems about sets, words and tables, on contracts of functions that a program can call.
 ghost use Rattle.words.specs.Laws.{SameMembers, ValueOfSet, CodedMembers, EveryChoice, ZerosAtEnd, WordOrder};
+ghost use Rattle.words.specs.TableLaws.{ResidualsNeverBoth, OneCount, TableCounts, TableUnique, TableAnswers};
 
 /// Computes nothing: its contract says what the definitions of sets, words and their order come to.
 pub fn laws_of_words()
@@ -10,3 +11,13 @@ pub fn laws_of_words()
     ensures zeros_at_end { λ _. ⌜ ZerosAtEnd ⌝ }
     ensures word_order { λ _. ⌜ WordOrder ⌝ }
 {}
+
+/// Computes nothing: its contract says what the definitions of residuals, counts and tables come to.
+pub fn laws_of_tables()
+    ensures never_both { λ _. ⌜ ResidualsNeverBoth ⌝ }
+    ensures one_count { λ _. ⌜ OneCount ⌝ }
+    ensures counts { λ _. ⌜ TableCounts ⌝ }
+    ensures unique { λ _. ⌜ TableUnique ⌝ }
+    ensures answers { λ _. ⌜ TableAnswers ⌝ }
+{
+}

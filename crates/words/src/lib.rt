@@ -3,6 +3,7 @@ mod laws;
 mod rows;
 mod word;
 
+pub use laws::laws_of_tables;
 pub use laws::laws_of_words;
 pub use rows::Rows;
 pub use rows::cell;
