@@ -30,7 +30,7 @@ module _ {S : Type 0} (m : Moves S) (n met : ℕ) (records : List S) (links raw 
   accepts-is s h = accepts-inside n met raw s (m .final (record-of m records s)) h (e .mark s h)
 
   side : (v : List ℕ) (s : ℕ) → s < met → Columns n v
-    → (run (written n met raw .step) s v < met) × (record-of m records (run (written n met raw .step) s v) ≡ run (m .next) (record-of m records s) v)
+      → (run (written n met raw .step) s v < met) × (record-of m records (run (written n met raw .step) s v) ≡ run (m .next) (record-of m records s) v)
   side [] s h cs = (h, refl)
   side (c ∷ v) s h cs =
       let there = closed-rows s c h (cs .0) in
@@ -39,7 +39,7 @@ module _ {S : Type 0} (m : Moves S) (n met : ℕ) (records : List S) (links raw 
 
   -- a word that leads to record s is completed as s is
   completes : (u : List ℕ) (s : ℕ) → s < met → reach m u ≡ record-of m records s → (v : List ℕ) → Columns n v
-    → language m (u ++ v) ≡ written n met raw .accepts (run (written n met raw .step) s v)
+      → language m (u ++ v) ≡ written n met raw .accepts (run (written n met raw .step) s v)
   completes u s h is v cs =
       let there = side v s h cs in
       ap (m .final) (run-append (m .next) (m .start) u v ∙ ap (λ x. run (m .next) x v) is ∙ sym (there .1))
@@ -66,7 +66,7 @@ module _ {S : Type 0} (m : Moves S) (n met : ℕ) (records : List S) (links raw 
     told-apart i j hi hj same =
         sym (g .low-into i hi)
         ∙ g .apart (g .low i) (g .low j) (g .low-met i hi) (g .low-met j hj)
-          (λ v cs. sym (completes (first i) (g .low i) (g .low-met i hi) (leads i hi) v cs) ∙ same v cs ∙ completes (first j) (g .low j) (g .low-met j hj) (leads j hj) v cs)
+        (λ v cs. sym (completes (first i) (g .low i) (g .low-met i hi) (leads i hi) v cs) ∙ same v cs ∙ completes (first j) (g .low j) (g .low-met j hj) (leads j hj) v cs)
         ∙ g .low-into j hj
 
     not-later : (w : List ℕ) → Columns n w → (s : ℕ) → s < met → reach m w ≡ record-of m records s → NotLater (first (g .into s)) w
@@ -100,18 +100,19 @@ module _ {S : Type 0} (m : Moves S) (n met : ℕ) (records : List S) (links raw 
       ordered = λ i j l h. e .ordered (g .low i) (g .low j) (g .rising i j l h) (g .low-met j h);
       different = told-apart;
       every = λ w cs.
-        let x = e .every w cs in
-        (g .into (x .0), g .into-kept (x .0) (x .1), residual w (x .0) (x .1) (x .2), not-later w cs (x .0) (x .1) (x .2));
+          let x = e .every w cs in
+          (g .into (x .0), g .into-kept (x .0) (x .1), residual w (x .0) (x .1) (x .2), not-later w cs (x .0) (x .1) (x .2));
       next = λ k c hk hc.
-        let s : ℕ = g .low k in
-        let hs : s < met = g .low-met k hk in
-        let t : ℕ = written n met raw .step s c in
-        let ht : t < met = closed-rows s c hs hc in
-        let there : reach m (first k ++ c ∷ []) ≡ record-of m records t =
-          run-push (m .next) (m .start) (first k) c ∙ ap (λ x. m .next x c) (leads k hk) ∙ sym (e .next s c hs hc .1) ∙ ap (record-of m records) (sym (step-is s c hs hc)) in
-        (subst (λ x. x < kept) (sym (g .next k c hk hc)) (g .into-kept t ht),
-         subst (λ x. SameResidual n (language m) (first k ++ c ∷ []) (first x)) (sym (g .next k c hk hc)) (residual (first k ++ c ∷ []) t ht there));
+          let s : ℕ = g .low k in
+          let hs : s < met = g .low-met k hk in
+          let t : ℕ = written n met raw .step s c in
+          let ht : t < met = closed-rows s c hs hc in
+          let there : reach m (first k ++ c ∷ []) ≡ record-of m records t =
+          run-push (m .next) (m .start) (first k) c ∙ ap (λ x. m .next x c) (leads k hk) ∙ sym (e .next s c hs hc .1) ∙ ap (record-of m records) (sym (step-is s c hs hc)) in (
+            subst (λ x. x < kept) (sym (g .next k c hk hc)) (g .into-kept t ht),
+            subst (λ x. SameResidual n (language m) (first k ++ c ∷ []) (first x)) (sym (g .next k c hk hc)) (residual (first k ++ c ∷ []) t ht there),
+          );
       mark = λ k hk.
-        g .mark k hk
-        ∙ ap (λ b. cond b 1 0) (accepts-is (g .low k) (g .low-met k hk) ∙ ap (m .final) (sym (leads k hk)));
+          g .mark k hk
+          ∙ ap (λ b. cond b 1 0) (accepts-is (g .low k) (g .low-met k hk) ∙ ap (m .final) (sym (leads k hk)));
     }

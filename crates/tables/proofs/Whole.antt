@@ -33,7 +33,7 @@ module _ {S : Type 0} (m : Moves S) (n met : ℕ) (records : List S) (links rows
   early : (w : List ℕ) → Columns n w → NotLater (word-of links (run (next-of n rows) 0 w)) w
   early w cs =
       trail-earliest n met (next-of n rows) (parent-of links) (column-of links) (chart .some) stays (chart .falls) (chart .fits)
-        (λ j c hj hc p. chart .rows j c hj hc (inl hj) .2 p) (chart .rising) w cs .1
+      (λ j c hj hc p. chart .rows j c hj hc (inl hj) .2 p) (chart .rising) w cs .1
 
   pub whole : Explored m n met records links rows
   whole = record {
@@ -44,13 +44,13 @@ module _ {S : Type 0} (m : Moves S) (n met : ℕ) (records : List S) (links rows
     mark = chart .marks;
     columns = trail-columns n met (parent-of links) (column-of links) (chart .falls) (chart .fits);
     leads = λ j h.
-      ap (λ s. run (m .next) s (word-of links j)) (sym (chart .start))
-      ∙ trail-leads n met (parent-of links) (column-of links) (chart .falls) (chart .fits) (m .next) (record-of m records) (chart .joins) j h;
+        ap (λ s. run (m .next) s (word-of links j)) (sym (chart .start))
+        ∙ trail-leads n met (parent-of links) (column-of links) (chart .falls) (chart .fits) (m .next) (record-of m records) (chart .joins) j h;
     earliest = λ j h w cs e.
-      let there : run (next-of n rows) 0 w ≡ j = chart .apart (run (next-of n rows) 0 w) j (side w 0 (chart .some) cs .0) h (leads-to w cs ∙ e) in
-      subst (λ x. NotLater (word-of links x) w) there (early w cs);
+        let there : run (next-of n rows) 0 w ≡ j = chart .apart (run (next-of n rows) 0 w) j (side w 0 (chart .some) cs .0) h (leads-to w cs ∙ e) in
+        subst (λ x. NotLater (word-of links x) w) there (early w cs);
     ordered = trails-ordered n met (next-of n rows) (parent-of links) (column-of links) (chart .some) stays (chart .falls) (chart .fits)
-      (λ j c hj hc p. chart .rows j c hj hc (inl hj) .2 p) (chart .rising);
+        (λ j c hj hc p. chart .rows j c hj hc (inl hj) .2 p) (chart .rising);
     every = λ w cs. (run (next-of n rows) 0 w, side w 0 (chart .some) cs .0, sym (leads-to w cs));
   }
 

@@ -29,7 +29,7 @@ Meets m budget at column met records links records′ links′ None = (met ≡ b
 Meets m budget at column met records links records′ links′ (Some s) =
     ((s .met ≡ met) × (s .to < met) × (record-of m records (s .to) ≡ m .next (record-of m records at) column) × (records′ ≡ records) × (links′ ≡ links))
     ⊎ ((s .met ≡ met + 1) × (s .to ≡ met) × (met < budget) × Unmet m at column met records
-       × (records′ ≡ set records met (m .next (record-of m records at) column)) × (links′ ≡ set (set links (2 * met) at) (2 * met + 1) column))
+    × (records′ ≡ set records met (m .next (record-of m records at) column)) × (links′ ≡ set (set links (2 * met) at) (2 * met + 1) column))
 
 -- The columns of record `at` are looked at up to the k-th: the chart is extended, or more states than the budget are reached.
 abbrev pub Extends : {S : Type 0} → Moves S → ℕ → ℕ → ℕ → ℕ → ℕ → List S → List ℕ → List ℕ → Option ℕ → Type 0

@@ -7,7 +7,6 @@ ghost use Rattle.tables.specs.Chart.{Chart, Meets, Extends, Past};
 ghost use Rattle.tables.specs.Room.{Room};
 ghost use Rattle.tables.specs.Explored.{Explores};
 ghost use Rattle.std.specs.Orderings.{Decides};
-
 use crate::kind::Kind;
 use words::nth_column;
 use words::put;
@@ -60,7 +59,10 @@ fn follow<K: Kind>(
     records[met] = next;
     links[2 * met] = at as u16;
     links[2 * met + 1] = u16::from(column);
-    Some(Step { to: met, met: met + 1 })
+    Some(Step {
+        to: met,
+        met: met + 1,
+    })
 }
 
 // Looks at the k-th column of record `at`, and writes where it leads.
@@ -86,7 +88,11 @@ fn explore_column<K: Kind>(
     let columns = 1usize << sets;
     let column = nth_column(sets, k);
     let step = follow(kind, budget, at, column, met, records, links)?;
-    put(rows, at * (columns + 1) + usize::from(column), step.to as u16);
+    put(
+        rows,
+        at * (columns + 1) + usize::from(column),
+        step.to as u16,
+    );
     Some(step.met)
 }
 

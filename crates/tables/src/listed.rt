@@ -1,6 +1,5 @@
 //! Automata that are written out in rows, as a kind of state.
 ghost use Rattle.tables.specs.Listed.{listed};
-
 use crate::kind::Kind;
 use words::Rows;
 

@@ -10,7 +10,6 @@ ghost use Rattle.tables.specs.Merged.{Merged};
 ghost use Rattle.tables.specs.Tabulated.{Elsewhere};
 ghost use Rattle.tables.specs.Numbered.{Numbered, Wrote, Wrote-row};
 ghost use Rattle.tables.specs.Classing.{described, class-of, Closed, Classed, Passes, Rounds, Settled, Splits};
-
 use words::Rows;
 use words::cell;
 use words::put;
@@ -188,7 +187,14 @@ fn write_cells(raw: &Rows, numbers: &[u16], low: u16, out: &mut [u16], at: usize
 }
 
 // Writes the rows of the merged states, each from the lowest state of its class, from `base` on.
-fn write_rows(raw: &Rows, numbers: &[u16], leaders: &[u16], count: u16, out: &mut [u16], base: usize)
+fn write_rows(
+    raw: &Rows,
+    numbers: &[u16],
+    leaders: &[u16],
+    count: u16,
+    out: &mut [u16],
+    base: usize,
+)
     requires room { ⌜ base + count * width (now raw .places) ≤ length (now out) ⌝ }
     ensures { λ _. ⌜ Wrote (described (now (raw .entry))) (now (raw .entry) .places) (class-of (now (numbers .entry))) (class-of (now (leaders .entry))) count base (now (out .entry)) (now (out .exit)) ⌝ }
 {
@@ -204,7 +210,14 @@ fn write_rows(raw: &Rows, numbers: &[u16], leaders: &[u16], count: u16, out: &mu
 
 // Merges the states that no word tells apart: writes a row for each class, numbered by its lowest state, from `base`
 // on, and answers how many there are.
-pub fn merge_states(raw: &Rows, class: &mut [u16], fresh: &mut [u16], numbers: &mut [u16], out: &mut [u16], base: usize) -> u16
+pub fn merge_states(
+    raw: &Rows,
+    class: &mut [u16],
+    fresh: &mut [u16],
+    numbers: &mut [u16],
+    out: &mut [u16],
+    base: usize,
+) -> u16
     requires closed { ⌜ Closed (now raw) ⌝ }
     requires room { ⌜ (now raw .states ≤ length (now class)) × (now raw .states ≤ length (now fresh)) × (now raw .states ≤ length (now numbers)) ⌝ }
     requires slot { ⌜ base + now raw .states * width (now raw .places) ≤ length (now out) ⌝ }

@@ -8,7 +8,6 @@ ghost use Rattle.tables.specs.Chart.{Past};
 ghost use Rattle.tables.specs.Merged.{Merged};
 ghost use Rattle.tables.specs.Room.{Room};
 ghost use Rattle.tables.specs.Tabulated.{Elsewhere, Tabulates};
-
 use crate::exploration::Unexplored;
 use crate::exploration::explore;
 use crate::exploration::has_room;
@@ -34,7 +33,15 @@ fn has_slot(sets: u8, budget: usize, tables: usize, base: usize) -> bool
 }
 
 // Merges explored rows; the links past those of the records are its work memory.
-fn merge_rows(sets: u8, budget: usize, met: usize, links: &mut [u16], raw: &[u16], tables: &mut [u16], base: usize) -> usize
+fn merge_rows(
+    sets: u8,
+    budget: usize,
+    met: usize,
+    links: &mut [u16],
+    raw: &[u16],
+    tables: &mut [u16],
+    base: usize,
+) -> usize
     requires sets { ⌜ sets ≤ 8 ⌝ }
     requires few { ⌜ (met ≤ budget) × (budget ≤ 512) ⌝ }
     requires links { ⌜ 8 * budget ≤ length (now links) ⌝ }

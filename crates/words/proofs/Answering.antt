@@ -32,7 +32,7 @@ module _ (n : ℕ) (L : List ℕ → Bool) (rows : List ℕ) (size : ℕ) (t : T
   -- the state after a word has its residual
   After : List ℕ → Type 0
   After w = Columns n w
-    → (run (written n size rows .step) 0 w < size) × SameResidual n L w (t .first (run (written n size rows .step) 0 w))
+      → (run (written n size rows .step) 0 w < size) × SameResidual n L w (t .first (run (written n size rows .step) 0 w))
 
   after-nil : After []
   unfolding After
@@ -45,11 +45,13 @@ module _ (n : ℕ) (L : List ℕ → Bool) (rows : List ℕ) (size : ℕ) (t : T
       let small : c < 2 ^ n = columns-last n u c cs in
       let j : ℕ = run (written n size rows .step) 0 u in
       let there : run (written n size rows .step) 0 (u ++ c ∷ []) ≡ next-of n rows j c =
-        run-push (written n size rows .step) 0 u c ∙ step-inside n size rows j c (here .0) small in
+      run-push (written n size rows .step) 0 u c ∙ step-inside n size rows j c (here .0) small in
       let goes = t .next j c (here .0) small in
-      subst (λ x. (x < size) × SameResidual n L (u ++ c ∷ []) (t .first x)) (sym there)
-        (goes .0, λ v vs.
-          ap L (append-assoc u (c ∷ []) v) ∙ here .1 (c ∷ v) (small, vs) ∙ ap L (sym (append-assoc (t .first j) (c ∷ []) v)) ∙ goes .1 v vs)
+      subst (λ x. (x < size) × SameResidual n L (u ++ c ∷ []) (t .first x)) (sym there) (
+        goes .0,
+        λ v vs.
+            ap L (append-assoc u (c ∷ []) v) ∙ here .1 (c ∷ v) (small, vs) ∙ ap L (sym (append-assoc (t .first j) (c ∷ []) v)) ∙ goes .1 v vs,
+      )
 
   after : (w : List ℕ) → After w
   after = snoc-ind After after-nil after-push
@@ -73,13 +75,14 @@ table-of-same n L M rows size same t = record {
   different = λ i j hi hj h. t .different i j hi hj (back (t .first i) (t .first j) (t .columns i hi) (t .columns j hj) h);
   every = λ w cs. let x = t .every w cs in (x .0, x .1, forth w (t .first (x .0)) cs (t .columns (x .0) (x .1)) (x .2), x .3);
   next = λ j c hj hc.
-    let x = t .next j c hj hc in
-    (x .0, forth (t .first j ++ c ∷ []) (t .first (next-of n rows j c)) (columns-push n (t .first j) c (t .columns j hj) hc) (t .columns (next-of n rows j c) (x .0)) (x .1));
+      let x = t .next j c hj hc in
+      (x .0, forth (t .first j ++ c ∷ []) (t .first (next-of n rows j c)) (columns-push n (t .first j) c (t .columns j hj) hc) (t .columns (next-of n rows j c) (x .0)) (x .1));
   mark = λ j h. t .mark j h ∙ ap (λ b. cond b 1 0) (same (t .first j) (t .columns j h));
 }
   where
     forth : (u w : List ℕ) → Columns n u → Columns n w → SameResidual n L u w → SameResidual n M u w
     forth u w cu cw h v cv = sym (same (u ++ v) (columns-append n u v cu cv)) ∙ h v cv ∙ same (w ++ v) (columns-append n w v cw cv)
+
     back : (u w : List ℕ) → Columns n u → Columns n w → SameResidual n M u w → SameResidual n L u w
     back u w cu cw h v cv = same (u ++ v) (columns-append n u v cu cv) ∙ h v cv ∙ sym (same (w ++ v) (columns-append n w v cw cv))
 

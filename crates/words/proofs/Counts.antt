@@ -45,14 +45,15 @@ pigeons (suc k) f small apart =
     let out : (j : ℕ) → j < suc k → f j ≡ v → ⊥ = λ j h e. let same = apart j (suc k) (omega arith) (omega arith) e in omega arith in
     let g = choice (Squeezed v f) (suc k) (λ j h. squeezed v (f j) (out j h)) in
     pigeons k (g .0)
-      (λ j h. low j (small j (omega arith)) (small (suc k) (omega arith)) (g .1 j h))
-      (λ i j hi hj e. apart i j (omega arith) (omega arith) (same i j e (g .1 i hi) (g .1 j hj)))
+    (λ j h. low j (small j (omega arith)) (small (suc k) (omega arith)) (g .1 j h))
+    (λ i j hi hj e. apart i j (omega arith) (omega arith) (same i j e (g .1 i hi) (g .1 j hj)))
   where
     low : (j : ℕ) {y : ℕ} → f j < suc k → f (suc k) < suc k → ((f (suc k) < f j) × (f j ≡ suc y)) ⊎ ((f j < f (suc k)) × (f j ≡ y)) → y < k
     low j hj hv (inl s) = let e = s .1 in omega arith
     low j hj hv (inr s) = let l = s .0 in let e = s .1 in omega arith
+
     same : (i j : ℕ) {y z : ℕ} → y ≡ z → ((f (suc k) < f i) × (f i ≡ suc y)) ⊎ ((f i < f (suc k)) × (f i ≡ y))
-      → ((f (suc k) < f j) × (f j ≡ suc z)) ⊎ ((f j < f (suc k)) × (f j ≡ z)) → f i ≡ f j
+        → ((f (suc k) < f j) × (f j ≡ suc z)) ⊎ ((f j < f (suc k)) × (f j ≡ z)) → f i ≡ f j
     same i j e (inl s) (inl t) = let a = s .1 in let b = t .1 in omega arith
     same i j e (inl s) (inr t) = let a = s .1 in let b = t .1 in let c = s .0 in let d = t .0 in omega arith
     same i j e (inr s) (inl t) = let a = s .1 in let b = t .1 in let c = s .0 in let d = t .0 in omega arith
@@ -64,11 +65,11 @@ module _ (n : ℕ) (Same : List ℕ → List ℕ → Type 0) (equal : Equality S
   pub never-both : (k : ℕ) → Count n Same k → MoreThan n Same k → ⊥
   never-both k exact more =
       let at = choice (λ j i. (i < k) × Same (more .word j) (exact .word i)) (suc k)
-        (λ j h. let e = exact .every (more .word j) (more .columns j (omega arith)) in (e .0, (e .1, e .2))) in
+      (λ j h. let e = exact .every (more .word j) (more .columns j (omega arith)) in (e .0, (e .1, e .2))) in
       pigeons k (at .0) (λ j h. at .1 j h .0)
-        (λ i j hi hj e. more .different i j (omega arith) (omega arith)
-          (equal .chain (more .word i) (exact .word (at .0 i)) (more .word j) (at .1 i hi .1)
-            (equal .back (more .word j) (exact .word (at .0 i)) (subst (λ m. Same (more .word j) (exact .word m)) (sym e) (at .1 j hj .1)))))
+      (λ i j hi hj e. more .different i j (omega arith) (omega arith)
+      (equal .chain (more .word i) (exact .word (at .0 i)) (more .word j) (at .1 i hi .1)
+      (equal .back (more .word j) (exact .word (at .0 i)) (subst (λ m. Same (more .word j) (exact .word m)) (sym e) (at .1 j hj .1)))))
 
   -- a larger count is more than a smaller one
   above : (k l : ℕ) → k < l → Count n Same l → MoreThan n Same k

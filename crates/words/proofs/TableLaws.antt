@@ -70,7 +70,7 @@ module _ (n : ℕ) (L : List ℕ → Bool) (rows : List ℕ) (k : ℕ) (t : Tabl
       let a = there .1 i (omega arith) in
       let b = there .1 j hj in
       ordered-back n L rows′ k′ t′ rows k t (there .0 i) (there .0 j) (a .0) (b .0)
-        (subst (λ w. Precedes w (t′ .first (there .0 j))) (sym (a .1)) (subst (Precedes (t .first i)) (sym (b .1)) (t .ordered i j h hj)))
+      (subst (λ w. Precedes w (t′ .first (there .0 j))) (sym (a .1)) (subst (Precedes (t .first i)) (sym (b .1)) (t .ordered i j h hj)))
 
 module _ (n : ℕ) (L : List ℕ → Bool) (rows : List ℕ) (k : ℕ) (t : TableOf n L rows k) (rows′ : List ℕ) (k′ : ℕ) (t′ : TableOf n L rows′ k′) where
   -- there and back again is the same state, so no state moves
@@ -105,7 +105,7 @@ module _ (n : ℕ) (L : List ℕ → Bool) (rows : List ℕ) (k : ℕ) (t : Tabl
       let in-first : next-of n rows′ j c < k = subst (λ m. next-of n rows′ j c < m) (sym same-size) (b .0) in
       let there-first = same-first n L rows k t rows′ k′ t′ (next-of n rows′ j c) in-first in
       t .different (next-of n rows j c) (next-of n rows′ j c) (a .0) in-first
-        (λ v cs. sym (a .1 v cs) ∙ ap (λ w. L ((w ++ c ∷ []) ++ v)) (sym (here .1)) ∙ b .1 v cs ∙ ap (λ w. L (w ++ v)) (there-first .1))
+      (λ v cs. sym (a .1 v cs) ∙ ap (λ w. L ((w ++ c ∷ []) ++ v)) (sym (here .1)) ∙ b .1 v cs ∙ ap (λ w. L (w ++ v)) (there-first .1))
 
   pub same-mark : (j : ℕ) → j < k → mark-of n rows j ≡ mark-of n rows′ j
   same-mark j hj =

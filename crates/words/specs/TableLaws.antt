@@ -23,9 +23,9 @@ TableCounts = (n : ℕ) (L : List ℕ → Bool) (rows : List ℕ) (size : ℕ) �
 -- two tables of one language are the same, row by row
 abbrev pub TableUnique : Type 0
 TableUnique = (n : ℕ) (L : List ℕ → Bool) (rows : List ℕ) (size : ℕ) (rows′ : List ℕ) (size′ : ℕ) → TableOf n L rows size → TableOf n L rows′ size′
-  → (size ≡ size′)
-  × ((j c : ℕ) → j < size → c < 2 ^ n → next-of n rows j c ≡ next-of n rows′ j c)
-  × ((j : ℕ) → j < size → mark-of n rows j ≡ mark-of n rows′ j)
+    → (size ≡ size′)
+    × ((j c : ℕ) → j < size → c < 2 ^ n → next-of n rows j c ≡ next-of n rows′ j c)
+    × ((j : ℕ) → j < size → mark-of n rows j ≡ mark-of n rows′ j)
 
 -- the table of a language accepts the words of the language
 abbrev pub TableAnswers : Type 0

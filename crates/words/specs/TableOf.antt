@@ -23,7 +23,7 @@ pub record TableOf (n : ℕ) (L : List ℕ → Bool) (rows : List ℕ) (size : �
   pub every : (w : List ℕ) → Columns n w → (j : ℕ) × (j < size) × SameResidual n L w (first j) × NotLater (first j) w
   -- the rows say where a column leads, and which states accept
   pub next : (j c : ℕ) → j < size → c < 2 ^ n
-    → (next-of n rows j c < size) × SameResidual n L (first j ++ c ∷ []) (first (next-of n rows j c))
+      → (next-of n rows j c < size) × SameResidual n L (first j ++ c ∷ []) (first (next-of n rows j c))
   pub mark : (j : ℕ) → j < size → mark-of n rows j ≡ cond (L (first j)) 1 0
 
 -- whether a table of that many states accepts a word

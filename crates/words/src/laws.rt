@@ -19,5 +19,4 @@ pub fn laws_of_tables()
     ensures counts { λ _. ⌜ TableCounts ⌝ }
     ensures unique { λ _. ⌜ TableUnique ⌝ }
     ensures answers { λ _. ⌜ TableAnswers ⌝ }
-{
-}
+{}

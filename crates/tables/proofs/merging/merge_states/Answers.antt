@@ -15,7 +15,7 @@ pub returns : need.returns
 returns c = record {
   few = c .number-classes-count .ensures .few;
   merged = merged (c .args .raw .now) (c .refine .last .class) (c .number-classes-count .last .numbers) (c .number-classes-count .last .leaders)
-    (c .args .out .now) (c .write-rows .last .out) (c .number-classes-count .result) (c .args .base) (c .pre .closed) (c .refine .ensures .classes) (c .refine .ensures .settled)
-    (c .number-classes-count .ensures) (c .write-rows .ensures);
+      (c .args .out .now) (c .write-rows .last .out) (c .number-classes-count .result) (c .args .base) (c .pre .closed) (c .refine .ensures .classes) (c .refine .ensures .settled)
+      (c .number-classes-count .ensures) (c .write-rows .ensures);
   elsewhere = (c .write-rows .ensures .before, c .write-rows .ensures .behind);
 }

@@ -15,17 +15,17 @@ loop-s-again c =
     let room : s < length (c .loop-s .numbers) = omega (arith, c .loop-s-test .taken, c .pre .room .0, c .loop-s .kept .numbers) in
     let wide : c .loop-s .count < length (c .loop-s .leaders) = omega (arith, c .loop-s .inv .few, c .loop-s-test .taken, c .pre .room .1, c .loop-s .kept .leaders) in
     elim (c .if-own-s .came) [
-      then-own-s w ↦
-        numbered-at class (s + 1) (set (c .loop-s .numbers) s (c .loop-s .count)) (set (c .loop-s .leaders) (c .loop-s .count) s) (c .loop-s .count + 1)
+      | then-own-s w ↦
+          numbered-at class (s + 1) (set (c .loop-s .numbers) s (c .loop-s .count)) (set (c .loop-s .leaders) (c .loop-s .count) s) (c .loop-s .count + 1)
           (c .if-own-s .numbers) (c .if-own-s .leaders) (c .if-own-s .count)
           (w .numbers-is ∙ w .put .ensures ∙ ap (λ i. set (c .loop-s .numbers) i (c .loop-s .count)) (w .from .ensures))
           (w .leaders-is ∙ w .put-then-own-s .ensures ∙ ap (λ i. set (c .loop-s .leaders) i s) (w .from-then-own-s .ensures))
           (w .count-is)
           (numbered-new class s (c .loop-s .numbers) (c .loop-s .leaders) (c .loop-s .count) (c .loop-s .inv) room wide
-            (sym (c .class-at-own .ensures) ∙ w .if-own-s .taken))
-    | else-own-s w ↦
-        let lower : class s < s = omega (arith, c .pre .low s (c .loop-s-test .taken), c .class-at-own .ensures, w .if-own-s .left) in
-        numbered-at class (s + 1) (set (c .loop-s .numbers) s (class-of (c .loop-s .numbers) (class s))) (c .loop-s .leaders) (c .loop-s .count)
+          (sym (c .class-at-own .ensures) ∙ w .if-own-s .taken))
+      | else-own-s w ↦
+          let lower : class s < s = omega (arith, c .pre .low s (c .loop-s-test .taken), c .class-at-own .ensures, w .if-own-s .left) in
+          numbered-at class (s + 1) (set (c .loop-s .numbers) s (class-of (c .loop-s .numbers) (class s))) (c .loop-s .leaders) (c .loop-s .count)
           (c .if-own-s .numbers) (c .if-own-s .leaders) (c .if-own-s .count)
           (w .numbers-is ∙ w .put-else-own-s .ensures
           ∙ ap₂ (λ i v. set (c .loop-s .numbers) i v) (w .from-else-own-s .ensures) (w .class-at-number .ensures ∙ ap (class-of (c .loop-s .numbers)) (c .class-at-own .ensures)))

@@ -10,11 +10,11 @@ use Rattle.tables.proofs.merging.round.Needs.{then-pass, else-pass}
 pub loop-k-again : need.loop-k-again
 loop-k-again c =
     elim (c .if-pass .came) [
-      then-pass w ↦
-        subst (Rounds (c .args .raw .now) (c .args .class .now) (c .loop-k .k + 1) (c .pass .last .class)) (sym (w .found-is))
+      | then-pass w ↦
+          subst (Rounds (c .args .raw .now) (c .args .class .now) (c .loop-k .k + 1) (c .pass .last .class)) (sym (w .found-is))
           (rounds-new (c .args .raw .now) (c .args .class .now) (c .loop-k .k) (c .loop-k .class) (c .loop-k .found) (c .loop-k .inv) (c .pass .last .class) (w .if-pass .ensures tt))
-    | else-pass w ↦
-        subst (Rounds (c .args .raw .now) (c .args .class .now) (c .loop-k .k + 1) (c .pass .last .class)) (sym (w .found-is))
+      | else-pass w ↦
+          subst (Rounds (c .args .raw .now) (c .args .class .now) (c .loop-k .k + 1) (c .pass .last .class)) (sym (w .found-is))
           (rounds-same (c .args .raw .now) (c .args .class .now) (c .loop-k .k) (c .loop-k .class) (c .loop-k .found) (c .loop-k .inv) (c .pass .last .class) (w .if-pass .ensures tt))
     ]
 

@@ -14,18 +14,18 @@ pub loop-s-again : need.loop-s-again
 loop-s-again c =
     let room : c .loop-s .s < length (c .loop-s .fresh) = omega (arith, c .loop-s-test .taken, c .pre .room, c .loop-s .kept .fresh) in
     let row : c .put .last .cells ≡ set (c .loop-s .fresh) (c .loop-s .s) (c .lowest-alike-low .result) =
-      c .put .ensures ∙ ap (λ i. set (c .loop-s .fresh) i (c .lowest-alike-low .result)) (c .from .ensures) in
+    c .put .ensures ∙ ap (λ i. set (c .loop-s .fresh) i (c .lowest-alike-low .result)) (c .from .ensures) in
     elim (c .if-low-class-at .came) [
-      then-low-class-at w ↦
-        subst (Splits (described (c .args .raw .now)) (class-of (c .args .class .now)) (c .args .column) (c .loop-s .s + 1) (class-of (c .put .last .cells))) (sym (w .found-is))
+      | then-low-class-at w ↦
+          subst (Splits (described (c .args .raw .now)) (class-of (c .args .class .now)) (c .args .column) (c .loop-s .s + 1) (class-of (c .put .last .cells))) (sym (w .found-is))
           (splits-new (described (c .args .raw .now)) (class-of (c .args .class .now)) (c .args .column) (c .loop-s .s) (c .loop-s .fresh) (c .loop-s .found) (c .loop-s .inv)
-            (c .lowest-alike-low .result) (c .lowest-alike-low .ensures) room (c .put .last .cells) row
-            (λ e. w .if-low-class-at .taken (e ∙ sym (c .class-at .ensures))))
-    | else-low-class-at w ↦
-        subst (Splits (described (c .args .raw .now)) (class-of (c .args .class .now)) (c .args .column) (c .loop-s .s + 1) (class-of (c .put .last .cells))) (sym (w .found-is))
+          (c .lowest-alike-low .result) (c .lowest-alike-low .ensures) room (c .put .last .cells) row
+          (λ e. w .if-low-class-at .taken (e ∙ sym (c .class-at .ensures))))
+      | else-low-class-at w ↦
+          subst (Splits (described (c .args .raw .now)) (class-of (c .args .class .now)) (c .args .column) (c .loop-s .s + 1) (class-of (c .put .last .cells))) (sym (w .found-is))
           (splits-same (described (c .args .raw .now)) (class-of (c .args .class .now)) (c .args .column) (c .loop-s .s) (c .loop-s .fresh) (c .loop-s .found) (c .loop-s .inv)
-            (c .lowest-alike-low .result) (c .lowest-alike-low .ensures) room (c .put .last .cells) row
-            (w .if-low-class-at .left ∙ c .class-at .ensures))
+          (c .lowest-alike-low .result) (c .lowest-alike-low .ensures) room (c .put .last .cells) row
+          (w .if-low-class-at .left ∙ c .class-at .ensures))
     ]
 
 pub returns : need.returns

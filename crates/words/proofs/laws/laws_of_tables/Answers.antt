@@ -10,6 +10,6 @@ returns c = record {
   one-count = λ n L. one-count n (SameResidual n L) (residual-equality n L);
   counts = table-counts;
   unique = λ n L rows size rows′ size′ t t′.
-    (same-size n L rows size t rows′ size′ t′, same-next n L rows size t rows′ size′ t′, same-mark n L rows size t rows′ size′ t′);
+      (same-size n L rows size t rows′ size′ t′, same-next n L rows size t rows′ size′ t′, same-mark n L rows size t rows′ size′ t′);
   answers = table-answers;
 }
