@@ -19,9 +19,9 @@ fn lowest_marked(raw: &Rows, s: u16) -> u16
     ensures { λ r. ⌜ Lowest (λ t. described (now (raw .entry)) .accepts t ≡ described (now (raw .entry)) .accepts s) r ⌝ }
 {
     let mark = raw.accepts(s);
-    for t in 0..s {
-        if raw.accepts(t) == mark {
-            return t;
+    for low in 0..s {
+        if raw.accepts(low) == mark {
+            return low;
         }
     }
     s
@@ -116,13 +116,13 @@ fn round(raw: &Rows, class: &mut [u16], fresh: &mut [u16]) -> bool
     ensures { λ r. ⌜ Rounds (now (raw .entry)) (now (class .entry)) (2 ^ now (raw .entry) .places) (now (class .exit)) r ⌝ }
 {
     let columns = 1usize << raw.places;
-    let mut found = false;
-    for k in 0..columns {
-        if pass(raw, k as u8, class, fresh) {
-            found = true;
+    let mut refined = false;
+    for column in 0..columns {
+        if pass(raw, column as u8, class, fresh) {
+            refined = true;
         }
     }
-    found
+    refined
 }
 
 // The first classes, by the mark alone.

@@ -7,19 +7,19 @@ use Rattle.tables.proofs.Lows.{rounds-same, rounds-new}
 use Rattle.tables.proofs.merging.round.Needs as need
 use Rattle.tables.proofs.merging.round.Needs.{then-pass, else-pass}
 
-pub loop-k-again : need.loop-k-again
-loop-k-again c =
+pub loop-column-again : need.loop-column-again
+loop-column-again c =
     elim (c .if-pass .came) [
       | then-pass w ↦
-          subst (Rounds (c .args .raw .now) (c .args .class .now) (c .loop-k .k + 1) (c .pass .last .class)) (sym (w .found-is))
-          (rounds-new (c .args .raw .now) (c .args .class .now) (c .loop-k .k) (c .loop-k .class) (c .loop-k .found) (c .loop-k .inv) (c .pass .last .class) (w .if-pass .ensures tt))
+          subst (Rounds (c .args .raw .now) (c .args .class .now) (c .loop-column .column + 1) (c .pass .last .class)) (sym (w .refined-is))
+          (rounds-new (c .args .raw .now) (c .args .class .now) (c .loop-column .column) (c .loop-column .class) (c .loop-column .refined) (c .loop-column .inv) (c .pass .last .class) (w .if-pass .ensures tt))
       | else-pass w ↦
-          subst (Rounds (c .args .raw .now) (c .args .class .now) (c .loop-k .k + 1) (c .pass .last .class)) (sym (w .found-is))
-          (rounds-same (c .args .raw .now) (c .args .class .now) (c .loop-k .k) (c .loop-k .class) (c .loop-k .found) (c .loop-k .inv) (c .pass .last .class) (w .if-pass .ensures tt))
+          subst (Rounds (c .args .raw .now) (c .args .class .now) (c .loop-column .column + 1) (c .pass .last .class)) (sym (w .refined-is))
+          (rounds-same (c .args .raw .now) (c .args .class .now) (c .loop-column .column) (c .loop-column .class) (c .loop-column .refined) (c .loop-column .inv) (c .pass .last .class) (w .if-pass .ensures tt))
     ]
 
 pub returns : need.returns
 returns c =
     let small : c .args .raw .now .places < 64 = omega (arith, c .args .raw .now .few) in
-    let end : c .loop-k .k ≡ 2 ^ c .args .raw .now .places = omega (arith, one-shl (c .args .raw .now .places) 64 small, c .loop-k-test .left, c .loop-k .kept .k-end) in
-    subst (λ k. Rounds (c .args .raw .now) (c .args .class .now) k (c .loop-k .class) (c .loop-k .found)) end (c .loop-k .inv)
+    let end : c .loop-column .column ≡ 2 ^ c .args .raw .now .places = omega (arith, one-shl (c .args .raw .now .places) 64 small, c .loop-column-test .left, c .loop-column .columnept .k-end) in
+    subst (λ k. Rounds (c .args .raw .now) (c .args .class .now) k (c .loop-column .class) (c .loop-column .refined)) end (c .loop-column .inv)
