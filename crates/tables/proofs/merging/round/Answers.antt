@@ -21,5 +21,5 @@ loop-column-again c =
 pub returns : need.returns
 returns c =
     let small : c .args .raw .now .places < 64 = omega (arith, c .args .raw .now .few) in
-    let end : c .loop-column .column ≡ 2 ^ c .args .raw .now .places = omega (arith, one-shl (c .args .raw .now .places) 64 small, c .loop-column-test .left, c .loop-column .columnept .k-end) in
+    let end : c .loop-column .column ≡ 2 ^ c .args .raw .now .places = omega (arith, one-shl (c .args .raw .now .places) 64 small, c .loop-column-test .left, c .loop-column .kept .column-end) in
     subst (λ k. Rounds (c .args .raw .now) (c .args .class .now) k (c .loop-column .class) (c .loop-column .refined)) end (c .loop-column .inv)
