@@ -19,8 +19,8 @@ use Rattle.words.specs.Links.{parent-of, column-of}
 use Rattle.words.proofs.Orders.{nth-below, place-nth}
 use Rattle.words.proofs.Charting.{Charted, Done, chart-same, chart-old, chart-new, chart-row, chart-more}
 use Rattle.words.proofs.Cells.{write-here, write-there, write-past, cell-below}
-use Rattle.tables.specs.Chart.{Chart, Unmet, Meets, Extends, Past}
-use Rattle.tables.specs.Explored.{record-of}
+use Rattle.tables.specs.Chart.{Chart, Unmet, Meets, Extends}
+use Rattle.tables.specs.Explored.{record-of, Past}
 use Rattle.tables.specs.Room.{Room}
 use Rattle.tables.specs.declared.exploration.Step.{Step}
 

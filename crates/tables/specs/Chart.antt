@@ -4,12 +4,12 @@ use Prim.Native.Nat.{ℕ, suc, _+_, _*_, _≤_, _<_}
 use mathlib.Core.Path.{_≡_}
 use mathlib.Core.Logic.{_⊎_}
 use mathlib.Core.List.{List}
-use lib.ListN.{set, drop}
+use lib.ListN.{set}
 use Rattle.std.specs.declared.option.Option.{Option}
 use Rattle.std.specs.declared.option.Option.the-variants.{Some, None}
 use Rattle.words.specs.Automata.{Moves, SameReach}
 use Rattle.words.specs.Residuals.{MoreThan}
-use Rattle.words.specs.Rows.{width, next-of, mark-of}
+use Rattle.words.specs.Rows.{next-of, mark-of}
 use Rattle.words.specs.Links.{parent-of, column-of}
 use Rattle.words.proofs.Charting.{Charted}
 use Rattle.tables.specs.Explored.{record-of}
@@ -35,7 +35,3 @@ Meets m budget at column met records links records′ links′ (Some s) =
 abbrev pub Extends : {S : Type 0} → Moves S → ℕ → ℕ → ℕ → ℕ → ℕ → List S → List ℕ → List ℕ → Option ℕ → Type 0
 Extends m n budget at k met records links rows None = MoreThan n (SameReach m) budget
 Extends m n budget at k met records links rows (Some met′) = Chart m n at k met′ records links rows × (met ≤ met′) × (met′ ≤ budget)
-
--- what lies past the rows of the budget stays
-abbrev pub Past : ℕ → ℕ → List ℕ → List ℕ → Type 0
-Past n budget rows rows′ = drop (budget * width n) rows′ ≡ drop (budget * width n) rows

@@ -1,15 +1,15 @@
 -- What an exploration finds.
-use Prim.Native.Nat.{ℕ, _+_, _^_, _≤_, _<_}
+use Prim.Native.Nat.{ℕ, _*_, _^_, _≤_, _<_}
 use mathlib.Core.Path.{_≡_}
 use mathlib.Core.Bool.{cond}
 use mathlib.Core.List.{List}
-use lib.ListN.{length, getD}
+use lib.ListN.{length, getD, drop}
 use Rattle.std.specs.declared.result.Result.{Result}
 use Rattle.std.specs.declared.result.Result.the-variants.{Ok, Err}
 use Rattle.words.specs.Words.{Columns}
 use Rattle.words.specs.Order.{Precedes, NotLater}
 use Rattle.words.specs.Automata.{Moves, reach, SameReach}
-use Rattle.words.specs.Rows.{next-of, mark-of}
+use Rattle.words.specs.Rows.{width, next-of, mark-of}
 use Rattle.words.specs.Links.{parent-of, column-of, trail}
 use Rattle.words.specs.Residuals.{Count, MoreThan}
 use Rattle.tables.specs.Room.{Room}
@@ -48,3 +48,7 @@ Explores m n budget records links rows records′ links′ rows′ (Err TooMany)
     Room n budget (length records) (length links) (length rows) × MoreThan n (SameReach m) budget
 Explores m n budget records links rows records′ links′ rows′ (Err NoRoom) =
     (Room n budget (length records) (length links) (length rows) → ⊥) × (records′ ≡ records) × (links′ ≡ links) × (rows′ ≡ rows)
+
+-- what lies past the rows of the budget stays
+abbrev pub Past : ℕ → ℕ → List ℕ → List ℕ → Type 0
+Past n budget rows rows′ = drop (budget * width n) rows′ ≡ drop (budget * width n) rows

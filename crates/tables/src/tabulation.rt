@@ -4,7 +4,7 @@ ghost use Prim.Native.Nat.{ℕ, _+_, _*_, _^_, _<_, _≤_};
 ghost use lib.ListN.{length, drop};
 ghost use Rattle.std.specs.Orderings.{Decides};
 ghost use Rattle.words.specs.Rows.{width, written};
-ghost use Rattle.tables.specs.Chart.{Past};
+ghost use Rattle.tables.specs.Explored.{Past};
 ghost use Rattle.tables.specs.Merged.{Merged};
 ghost use Rattle.tables.specs.Room.{Room};
 ghost use Rattle.tables.specs.Tabulated.{Elsewhere, Tabulates};

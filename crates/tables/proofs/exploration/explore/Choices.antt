@@ -1,5 +1,6 @@
 use Prim.Native.Nat.{_-_, _≤_}
-use Rattle.tables.specs.Chart.{Chart, Past}
+use Rattle.tables.specs.Chart.{Chart}
+use Rattle.tables.specs.Explored.{Past}
 use Rattle.tables.proofs.exploration.explore.Given as given
 
 -- the rows before `at` are whole
