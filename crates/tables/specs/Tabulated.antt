@@ -23,16 +23,18 @@ Elsewhere base many tables tables′ =
 abbrev pub Enough : ℕ → ℕ → ℕ → ℕ → ℕ → ℕ → ℕ → Type 0
 Enough n budget records links spare tables base = Room n budget records links spare × (base + budget * width n ≤ tables)
 
--- The answer of `tabulate`. Met counts the words up to the state to which they lead, kept up to their residuals.
-abbrev pub Tabulates : {S : Type 0} → Moves S → ℕ → ℕ → ℕ → List S → List ℕ → List ℕ → List ℕ → List ℕ → Result Counts Unexplored → Type 0
-Tabulates m n budget base records links spare tables tables′ (Ok t) =
+-- The answer of `tabulate`. Met counts the words up to the state to which they lead, kept up to their residuals. Unless
+-- there is no room, records, links and spare are work memory, and nothing is said of what they hold in the end.
+abbrev pub Tabulates : {S : Type 0} → Moves S → ℕ → ℕ → ℕ → List S → List ℕ → List ℕ → List ℕ → List S → List ℕ → List ℕ → List ℕ → Result Counts Unexplored → Type 0
+Tabulates m n budget base records links spare tables records′ links′ spare′ tables′ (Ok t) =
     Enough n budget (length records) (length links) (length spare) (length tables) base
     × (t .met ≤ budget) × (t .kept ≤ t .met)
     × Count n (SameReach m) (t .met)
     × TableOf n (language m) (drop base tables′) (t .kept)
     × Count n (SameResidual n (language m)) (t .kept)
     × Elsewhere base (t .kept * width n) tables tables′
-Tabulates m n budget base records links spare tables tables′ (Err TooMany) =
+Tabulates m n budget base records links spare tables records′ links′ spare′ tables′ (Err TooMany) =
     Enough n budget (length records) (length links) (length spare) (length tables) base × MoreThan n (SameReach m) budget × (tables′ ≡ tables)
-Tabulates m n budget base records links spare tables tables′ (Err NoRoom) =
-    (Enough n budget (length records) (length links) (length spare) (length tables) base → ⊥) × (tables′ ≡ tables)
+Tabulates m n budget base records links spare tables records′ links′ spare′ tables′ (Err NoRoom) =
+    (Enough n budget (length records) (length links) (length spare) (length tables) base → ⊥)
+    × (records′ ≡ records) × (links′ ≡ links) × (spare′ ≡ spare) × (tables′ ≡ tables)

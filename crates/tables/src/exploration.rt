@@ -133,8 +133,8 @@ pub enum Unexplored {
     TooMany,
 }
 
-/// Whether the memory is enough for so many states over so many sets.
-pub fn has_room(sets: u8, budget: usize, records: usize, links: usize, rows: usize) -> bool
+// Whether the memory is enough for so many states over so many sets.
+pub(crate) fn has_room(sets: u8, budget: usize, records: usize, links: usize, rows: usize) -> bool
     ensures { λ r. ⌜ Decides r (Room sets budget records links rows) ⌝ }
 {
     if sets > 8 || budget < 1 || budget > 512 {

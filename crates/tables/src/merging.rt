@@ -210,7 +210,7 @@ fn write_rows(
 
 // Merges the states that no word tells apart: writes a row for each class, numbered by its lowest state, from `base`
 // on, and answers how many there are.
-pub fn merge_states(
+pub(crate) fn merge_states(
     raw: &Rows,
     class: &mut [u16],
     fresh: &mut [u16],

@@ -77,7 +77,7 @@ pub fn tabulate<K: Kind>(
     tables: &mut [u16],
     base: usize,
 ) -> Result<Counts, Unexplored>
-    ensures found { λ r. ⌜ Tabulates (K·Kind .moves (now (kind .entry))) sets budget base (now (records .entry)) (now (links .entry)) (now (spare .entry)) (now (tables .entry)) (now (tables .exit)) r ⌝ }
+    ensures found { λ r. ⌜ Tabulates (K·Kind .moves (now (kind .entry))) sets budget base (now (records .entry)) (now (links .entry)) (now (spare .entry)) (now (tables .entry)) (now (records .exit)) (now (links .exit)) (now (spare .exit)) (now (tables .exit)) r ⌝ }
     ensures past { λ _. ⌜ Past sets budget (now (spare .entry)) (now (spare .exit)) ⌝ }
 {
     if !has_room(sets, budget, records.len(), links.len(), spare.len()) {

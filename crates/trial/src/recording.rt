@@ -1,7 +1,10 @@
 //! Recorded words, one to a line: the kind of board, a space, and the columns in decimal with commas between them,
 //! as `adder 7,0`. A `.` stands for a word without columns.
 ghost use mathlib.Core.Path.{_≡_};
+ghost use Prim.Native.Nat.{ℕ};
+ghost use lib.ListN.{take};
 ghost use Rattle.std.specs.Results.{Cases};
+ghost use Rattle.std.specs.Vec.{made};
 ghost use Rattle.trial.specs.Boards.{name-of};
 use std::alloc::Global;
 
@@ -28,8 +31,10 @@ pub enum Unread {
     NoMemory,
 }
 
-/// Reads one line.
-pub fn read(heap: Global, line: &str) -> Result<Recording, Unread> {
+/// Reads one line, which begins with the name of the board.
+pub fn read(heap: Global, line: &str) -> Result<Recording, Unread>
+    ensures { λ r. ⌜ made r (λ x. (i : ℕ) × (take i (now (line .entry)) ≡ name-of (x .board))) ⌝ }
+{
     let Some((kind, columns)) = line.split_once(' ') else {
         return Err(Unread::NoBoard);
     };

@@ -33,6 +33,7 @@ pub fn is_column(byte: u8, sets: u8) -> bool
 pub fn nth_column(sets: u8, k: usize) -> u8
     ensures { λ r. ⌜ r ≡ nth-column sets (k % 256) ⌝ }
 {
+    // The columns are in the order of their numbers, whatever sets there are.
     let _ = sets;
     (k % 256) as u8
 }
