@@ -11,3 +11,5 @@ pub mod Charting
 pub mod Merging
 pub mod Cells
 pub mod Answering
+pub mod Placing
+pub mod Pairing

@@ -9,3 +9,4 @@ pub mod Residuals
 pub mod TableOf
 pub mod Laws
 pub mod TableLaws
+pub mod Formulas
