@@ -67,6 +67,10 @@ same-members = bin-ind (λ s. (t : ℕ) → ((p : ℕ) → Member p s ↔ Member
     let low : s % 2 ≡ t % 2 = same-low (s % 2) (t % 2) (omega arith) (omega arith) (same 0 .0) (same 0 .1) in
     omega arith)
 
+-- the same by bits
+pub bits-equal : (s t : ℕ) → ((p : ℕ) → bit p s ≡ bit p t) → s ≡ t
+bits-equal s t same = same-members s t (λ p. ((λ m. sym (same p) ∙ m), (λ m. same p ∙ m)))
+
 -- ---- a set counts as the number that holds it
 
 -- the sum of weights, from the lowest position

@@ -13,3 +13,4 @@ pub mod Cells
 pub mod Answering
 pub mod Placing
 pub mod Pairing
+pub mod Hiding

@@ -10,3 +10,4 @@ pub mod TableOf
 pub mod Laws
 pub mod TableLaws
 pub mod Formulas
+pub mod Hiding
