@@ -63,6 +63,10 @@ pub columns-append : (n : ℕ) (u v : List ℕ) → Columns n u → Columns n v 
 columns-append n [] v cu cv = cv
 columns-append n (c ∷ u) v cu cv = (cu .0, columns-append n u v (cu .1) cv)
 
+pub columns-zeros : (n k : ℕ) → Columns n (replicate k 0)
+columns-zeros n zero = tt
+columns-zeros n (suc k) = (pow-pos n, columns-zeros n k)
+
 pub columns-front : (n : ℕ) (w : List ℕ) (c : ℕ) → Columns n (w ++ c ∷ []) → Columns n w
 columns-front n [] c cs = tt
 columns-front n (d ∷ w) c cs = (cs .0, columns-front n w c (cs .1))

@@ -14,3 +14,4 @@ pub mod Answering
 pub mod Placing
 pub mod Pairing
 pub mod Hiding
+pub mod Truths

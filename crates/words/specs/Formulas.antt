@@ -1,11 +1,13 @@
 -- Formulas over finite sets, and when a choice of sets makes one true.
-use Prim.Native.Nat.{ℕ, _+_, _*_}
-use mathlib.Core.Bool.{cond}
+use Prim.Native.Nat.{ℕ, _+_, _*_, _<_}
+use mathlib.Core.Bool.{Bool, cond}
 use mathlib.Core.Logic.{_⊎_}
 use mathlib.Core.List.{List, [], _∷_, map}
 use lib.Dec.{eqb}
+use lib.ListN.{length, getD}
 use Rattle.words.specs.Sets.{bit}
-use Rattle.words.specs.Words.{coded}
+use Rattle.std.specs.Orderings.{Decides}
+use Rattle.words.specs.Words.{Columns, coded}
 use Rattle.words.specs.Relations.{Singleton}
 
 pub data Formula : Type 0 where
@@ -32,6 +34,15 @@ Truth holds (both f g) choice = Truth holds f choice × Truth holds g choice
 Truth holds (either f g) choice = Truth holds f choice ⊎ Truth holds g choice
 Truth holds (hidden i f) choice = (s : ℕ) × Truth holds f (instead i s choice)
 
+-- every set that the formula names is below n
+abbrev pub Names : ℕ → Formula → Type 0
+Names n (placed p places) = (j : ℕ) → j < length places → getD places j 0 < n
+Names n (single i) = i < n
+Names n (negation f) = Names n f
+Names n (both f g) = Names n f × Names n g
+Names n (either f g) = Names n f × Names n g
+Names n (hidden i f) = (i < n) × Names n f
+
 -- a word satisfies a formula when the sets that it codes do
 abbrev pub Satisfies : (ℕ → List ℕ → Type 0) → Formula → List ℕ → Type 0
 Satisfies holds f w = Truth holds f (λ i. coded i w)
@@ -40,3 +51,7 @@ Satisfies holds f w = Truth holds f (λ i. coded i w)
 abbrev pub through : List ℕ → ℕ → ℕ
 through [] c = 0
 through (i ∷ places) c = bit i c + 2 * through places c
+
+-- the language of a test of words is the formula's: over n sets it holds of the words that satisfy the formula
+abbrev pub Tells : ℕ → (ℕ → List ℕ → Type 0) → Formula → (List ℕ → Bool) → Type 0
+Tells n holds f L = (w : List ℕ) → Columns n w → Decides (L w) (Satisfies holds f w)
