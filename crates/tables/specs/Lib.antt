@@ -6,3 +6,4 @@ pub mod Merged
 pub mod Numbered
 pub mod Tabulated
 pub mod Listed
+pub mod Paired

@@ -4,6 +4,7 @@ mod kind;
 mod laws;
 mod listed;
 mod merging;
+mod pairs;
 mod tabulation;
 
 pub use exploration::Unexplored;
@@ -12,6 +13,9 @@ pub use kind::Kind;
 pub use laws::laws_of_counts;
 pub use listed::Listed;
 pub use listed::ListedKind;
+pub use pairs::Join;
+pub use pairs::Pairs;
+pub use pairs::PairsKind;
 pub use tabulation::Counts;
 pub use tabulation::tabulate;
 
@@ -180,5 +184,43 @@ mod tests {
         check_eq(none, Err(Unexplored::NoRoom))?;
         let (wide, _) = tabled(3, &cells, 9);
         check_eq(wide, Err(Unexplored::NoRoom))
+    }
+
+    // "Exactly one member" of set 0 and of set 1, side by side: nine pairs of states are met, and five residuals are
+    // kept, since too many members of either set cannot be mended.
+    #[test]
+    fn pairs() -> Result<(), Fail> {
+        let first = [0, 1, 0, 1, 0, 1, 2, 1, 2, 1, 2, 2, 2, 2, 0];
+        let second = [0, 0, 1, 1, 0, 1, 1, 2, 2, 1, 2, 2, 2, 2, 0];
+        let lower = Rows {
+            places: 2,
+            states: 3,
+            cells: &first,
+        };
+        let upper = Rows {
+            places: 2,
+            states: 3,
+            cells: &second,
+        };
+        let kind = Pairs {
+            lower,
+            upper,
+            join: Join::Both,
+        };
+        let mut records = [(0u16, 0u16); 16];
+        let mut links = [0u16; 128];
+        let mut spare = [0u16; 80];
+        let mut tables = [0u16; 80];
+        let counts = tabulate(
+            &kind,
+            2,
+            16,
+            &mut records,
+            &mut links,
+            &mut spare,
+            &mut tables,
+            0,
+        );
+        check_eq(counts, Ok(Counts { met: 9, kept: 5 }))
     }
 }

@@ -57,7 +57,7 @@ module _ (n : ℕ) (L : List ℕ → Bool) (rows : List ℕ) (size : ℕ) (t : T
   after = snoc-ind After after-nil after-push
 
   pub state-after : (w : List ℕ) → Columns n w
-    → (run (written n size rows .step) 0 w < size) × SameResidual n L w (t .first (run (written n size rows .step) 0 w))
+      → (run (written n size rows .step) 0 w < size) × SameResidual n L w (t .first (run (written n size rows .step) 0 w))
   unfolding After
   state-after = after
 

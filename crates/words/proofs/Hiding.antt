@@ -43,8 +43,8 @@ turned-is i c d agree = bits-equal c (turned i (bit i c) d) same
   where
     same : (j : ℕ) → bit j c ≡ bit j (turned i (bit i c) d)
     same j = ⊎-elim
-      (λ e. subst (λ x. bit x c ≡ bit x (turned i (bit i c) d)) (sym e) (sym (turned-here i (bit i c) d (bit-small i c))))
-      (λ other. agree j other ∙ sym (turned-there i (bit i c) d (bit-small i c) j other)) (cases-eq j i)
+        (λ e. subst (λ x. bit x c ≡ bit x (turned i (bit i c) d)) (sym e) (sym (turned-here i (bit i c) d (bit-small i c))))
+        (λ other. agree j other ∙ sym (turned-there i (bit i c) d (bit-small i c) j other)) (cases-eq j i)
 
 -- ---- words that agree but for set i
 
@@ -78,19 +78,27 @@ longer-codes i (c ∷ u) (d ∷ w) v e o j other = ap₂ (λ b s. b + 2 * s) (e 
 
 -- Either it is shorter, and zeros make it equal but for bit i; or it goes on with columns that have no bit but i.
 pub beside : (n i : ℕ) (u w : List ℕ) → Columns n u → Columns n w → ((j : ℕ) → j < n → (j ≡ i → ⊥) → coded j u ≡ coded j w)
-  → (x : List ℕ) × (v : List ℕ) × (k : ℕ) × (u ++ replicate k 0 ≡ x ++ v) × Columns n x × Columns n v × EqualBut i x w × OnlyBit i v
+    → (x : List ℕ) × (v : List ℕ) × (k : ℕ) × (u ++ replicate k 0 ≡ x ++ v) × Columns n x × Columns n v × EqualBut i x w × OnlyBit i v
 beside n i [] [] cu cw same = ([], [], 0, refl, tt, tt, tt, tt)
 beside n i (c ∷ u) [] cu cw same = ([], c ∷ u, 0, append-nil (c ∷ u), tt, cu, tt, only (c ∷ u) cu (λ j l other. same j l other))
   where
     only : (v : List ℕ) → Columns n v → ((j : ℕ) → j < n → (j ≡ i → ⊥) → coded j v ≡ 0) → OnlyBit i v
     only [] cv none = tt
-    only (d ∷ v) cv none =
-        (coded-agree n i d 0 (cv .0) (pow-pos n) (λ j l other. let e = none j l other in omega (arith, bit-of-zero j)),
-         only v (cv .1) (λ j l other. let e = none j l other in omega arith))
+    only (d ∷ v) cv none = (
+      coded-agree n i d 0 (cv .0) (pow-pos n) (λ j l other. let e = none j l other in omega (arith, bit-of-zero j)),
+      only v (cv .1) (λ j l other. let e = none j l other in omega arith),
+    )
 beside n i [] (d ∷ w) cu cw same =
-    let rest = beside n i [] w tt (cw .1) (λ j l other. let e = same j l other in omega arith) in
-    (0 ∷ rest .0, rest .1, suc (rest .2), ap (λ x. 0 ∷ x) (rest .3), (pow-pos n, rest .4), rest .5,
-     (coded-agree n i 0 d (pow-pos n) (cw .0) (λ j l other. let e = same j l other in omega (arith, bit-of-zero j)), rest .6), rest .7)
+    let rest = beside n i [] w tt (cw .1) (λ j l other. let e = same j l other in omega arith) in (
+      0 ∷ rest .0,
+      rest .1,
+      suc (rest .2),
+      ap (λ x. 0 ∷ x) (rest .3),
+      (pow-pos n, rest .4),
+      rest .5,
+      (coded-agree n i 0 d (pow-pos n) (cw .0) (λ j l other. let e = same j l other in omega (arith, bit-of-zero j)), rest .6),
+      rest .7,
+    )
 beside n i (c ∷ u) (d ∷ w) cu cw same =
     let low : (j : ℕ) → j < n → (j ≡ i → ⊥) → bit j c ≡ bit j d = λ j l other. let e = same j l other in omega (arith, bit-small j c, bit-small j d) in
     let rest = beside n i u w (cu .1) (cw .1) (λ j l other. let e = same j l other in omega (arith, bit-small j c, bit-small j d)) in
@@ -102,7 +110,7 @@ beside n i (c ∷ u) (d ∷ w) cu cw same =
 -- then columns with no bit but i, is in it.
 module _ (n i : ℕ) (L : List ℕ → Bool) (padded : (u : List ℕ) (k : ℕ) → Columns n u → L (u ++ replicate k 0) ≡ L u) where
   pub hides-beside : (w : List ℕ) → Columns n w → Hides n i L w
-    → (x : List ℕ) × (v : List ℕ) × Columns n x × Columns n v × EqualBut i x w × OnlyBit i v × (L (x ++ v) ≡ true)
+      → (x : List ℕ) × (v : List ℕ) × Columns n x × Columns n v × EqualBut i x w × OnlyBit i v × (L (x ++ v) ≡ true)
   hides-beside w cw h =
       let b = beside n i (h .0) w (h .1) cw (h .2) in
       (b .0, b .1, b .4, b .5, b .6, b .7, ap L (sym (b .3)) ∙ padded (h .0) (b .2) (h .1) ∙ h .3)

@@ -4,7 +4,7 @@ use mathlib.Core.Path.{_≡_, refl, sym, ap, ap₂, subst, _∙_}
 use mathlib.Core.Bool.{Bool, _&&_, _||_}
 use mathlib.Core.List.{List, [], _∷_, _++_}
 use Rattle.words.specs.Words.{Columns}
-use Rattle.words.specs.Automata.{Automaton, Moves, run, reach, SameReach, accepted, language}
+use Rattle.words.specs.Automata.{Automaton, Moves, run, reach, SameReach, accepted, language, side-by-side}
 use Rattle.words.specs.Rows.{written}
 use Rattle.words.specs.Residuals.{SameResidual, Count, MoreThan}
 use Rattle.words.specs.TableOf.{TableOf}
@@ -17,7 +17,7 @@ module _ (n : ℕ) (L : List ℕ → Bool) (rows : List ℕ) (size : ℕ) (t : T
       let a = state-after n L rows size t u cu in
       let b = state-after n L rows size t w cw in
       t .different (run (written n size rows .step) 0 u) (run (written n size rows .step) 0 w) (a .0) (b .0)
-        (λ v cs. sym (a .1 v cs) ∙ same v cs ∙ b .1 v cs)
+      (λ v cs. sym (a .1 v cs) ∙ same v cs ∙ b .1 v cs)
 
   pub same-residual : (u w : List ℕ) → Columns n u → Columns n w → run (written n size rows .step) 0 u ≡ run (written n size rows .step) 0 w → SameResidual n L u w
   same-residual u w cu cw e v cs =
@@ -27,8 +27,8 @@ module _ (n : ℕ) (L : List ℕ → Bool) (rows : List ℕ) (size : ℕ) (t : T
 
 -- a count up to one sameness is a count up to another that agrees with it on words of columns
 pub count-same : (n : ℕ) (Same Other : List ℕ → List ℕ → Type 0) (k : ℕ)
-  → ((u w : List ℕ) → Columns n u → Columns n w → Same u w → Other u w) → ((u w : List ℕ) → Columns n u → Columns n w → Other u w → Same u w)
-  → Count n Same k → Count n Other k
+    → ((u w : List ℕ) → Columns n u → Columns n w → Same u w → Other u w) → ((u w : List ℕ) → Columns n u → Columns n w → Other u w → Same u w)
+    → Count n Same k → Count n Other k
 count-same n Same Other k to from c = record {
   word = c .word;
   columns = c .columns;
@@ -37,7 +37,7 @@ count-same n Same Other k to from c = record {
 }
 
 pub more-same : (n : ℕ) (Same Other : List ℕ → List ℕ → Type 0) (k : ℕ)
-  → ((u w : List ℕ) → Columns n u → Columns n w → Other u w → Same u w) → MoreThan n Same k → MoreThan n Other k
+    → ((u w : List ℕ) → Columns n u → Columns n w → Other u w → Same u w) → MoreThan n Same k → MoreThan n Other k
 more-same n Same Other k from c = record {
   word = c .word;
   columns = c .columns;
@@ -46,16 +46,8 @@ more-same n Same Other k from c = record {
 
 -- ---- pairs of states
 
--- two automata side by side
-abbrev pub side-by-side : Automaton → Automaton → (Bool → Bool → Bool) → Moves (ℕ × ℕ)
-side-by-side a b joins = record {
-  start = (a .start, b .start);
-  next = λ s c. (a .step (s .0) c, b .step (s .1) c);
-  final = λ s. joins (a .accepts (s .0)) (b .accepts (s .1));
-}
-
 pair-run : (a b : Automaton) (joins : Bool → Bool → Bool) (w : List ℕ) (s t : ℕ)
-  → run (side-by-side a b joins .next) (s, t) w ≡ (run (a .step) s w, run (b .step) t w)
+    → run (side-by-side a b joins .next) (s, t) w ≡ (run (a .step) s w, run (b .step) t w)
 pair-run a b joins [] s t = refl
 pair-run a b joins (c ∷ w) s t = pair-run a b joins w (a .step s c) (b .step t c)
 

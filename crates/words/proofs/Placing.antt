@@ -37,11 +37,11 @@ through-sets places w =
     let k : ℕ = length places in
     let read = map (through places) w in
     ext-getD 0 (sets k read) (map (λ i. coded i w) places)
-      (length-map-counting (λ j. coded j read) 0 k ∙ sym (length-map places (λ i. coded i w)))
-      (λ j h.
-        let within : j < k = subst (λ x. j < x) (length-map-counting (λ i. coded i read) 0 k) h in
-        getD-map-counting (λ i. coded i read) 0 k j j 0 within (omega arith)
-        ∙ through-coded places j w within ∙ sym (getD-map (λ i. coded i w) places j 0 0 within))
+    (length-map-counting (λ j. coded j read) 0 k ∙ sym (length-map places (λ i. coded i w)))
+    (λ j h.
+    let within : j < k = subst (λ x. j < x) (length-map-counting (λ i. coded i read) 0 k) h in
+    getD-map-counting (λ i. coded i read) 0 k j j 0 within (omega arith)
+    ∙ through-coded places j w within ∙ sym (getD-map (λ i. coded i w) places j 0 0 within))
 
 -- a run over the columns read through is the run over the place columns
 pub through-run : {S : Type 0} (step : S → ℕ → S) (places : List ℕ) (s : S) (w : List ℕ) → run (λ x c. step x (through places c)) s w ≡ run step s (map (through places) w)

@@ -27,16 +27,16 @@ instead-there i s x j other = cond-false (eqb j i) s (x j) (ne-eqb j i other)
 instead-same : (n i s : ℕ) (x y : ℕ → ℕ) → ((j : ℕ) → j < n → x j ≡ y j) → (j : ℕ) → j < n → instead i s x j ≡ instead i s y j
 instead-same n i s x y same j h =
     ⊎-elim (λ e. subst (λ k. instead i s x k ≡ instead i s y k) (sym e) (instead-here i s x ∙ sym (instead-here i s y)))
-      (λ other. instead-there i s x j other ∙ same j h ∙ sym (instead-there i s y j other)) (cases-eq j i)
+    (λ other. instead-there i s x j other ∙ same j h ∙ sym (instead-there i s y j other)) (cases-eq j i)
 
 pub truth-local : (n : ℕ) (holds : ℕ → List ℕ → Type 0) (f : Formula) → Names n f → (x y : ℕ → ℕ) → ((j : ℕ) → j < n → x j ≡ y j) → Truth holds f x → Truth holds f y
 truth-local n holds (placed p places) names x y same h =
     subst (holds p)
-      (ext-getD 0 (map x places) (map y places) (length-map places x ∙ sym (length-map places y))
-        (λ j l.
-          let within : j < length places = subst (λ k. j < k) (length-map places x) l in
-          getD-map x places j 0 0 within ∙ same (getD places j 0) (names j within) ∙ sym (getD-map y places j 0 0 within)))
-      h
+    (ext-getD 0 (map x places) (map y places) (length-map places x ∙ sym (length-map places y))
+    (λ j l.
+    let within : j < length places = subst (λ k. j < k) (length-map places x) l in
+    getD-map x places j 0 0 within ∙ same (getD places j 0) (names j within) ∙ sym (getD-map y places j 0 0 within)))
+    h
 truth-local n holds (single i) names x y same h = subst Singleton (same i names) h
 truth-local n holds (negation f) names x y same h = λ t. h (truth-local n holds f names y x (λ j l. sym (same j l)) t)
 truth-local n holds (both f g) names x y same h =
@@ -59,28 +59,34 @@ tells-either n holds f g L M t u w cs = decides-or (L w) (M w) (t w cs) (u w cs)
 
 -- zeros at the end change nothing that the language of a formula tells
 pub tells-padded : (n : ℕ) (holds : ℕ → List ℕ → Type 0) (f : Formula) (L : List ℕ → Bool) → Names n f → Tells n holds f L
-  → (u : List ℕ) (k : ℕ) → Columns n u → L (u ++ replicate k 0) ≡ L u
+    → (u : List ℕ) (k : ℕ) → Columns n u → L (u ++ replicate k 0) ≡ L u
 tells-padded n holds f L names t u k cu =
     let long : Columns n (u ++ replicate k 0) = columns-append n u (replicate k 0) cu (columns-zeros n k) in
     let a = t (u ++ replicate k 0) long in
-    same-from-decides (L (u ++ replicate k 0)) (L u)
-      ((λ e. truth-local n holds f names (λ j. coded j (u ++ replicate k 0)) (λ j. coded j u) (λ j l. zeros-at-end j k u) (a .0 e)),
-       (λ h. a .1 (truth-local n holds f names (λ j. coded j u) (λ j. coded j (u ++ replicate k 0)) (λ j l. sym (zeros-at-end j k u)) h)))
-      (t u cu)
+    same-from-decides (L (u ++ replicate k 0)) (L u) (
+      (λ e. truth-local n holds f names (λ j. coded j (u ++ replicate k 0)) (λ j. coded j u) (λ j l. zeros-at-end j k u) (a .0 e)),
+      (λ h. a .1 (truth-local n holds f names (λ j. coded j u) (λ j. coded j (u ++ replicate k 0)) (λ j l. sym (zeros-at-end j k u)) h)),
+    )
+    (t u cu)
 
 -- hiding a set in the language is hiding it in the formula
 module _ (n : ℕ) (holds : ℕ → List ℕ → Type 0) (f : Formula) (i : ℕ) (L : List ℕ → Bool) (names : Names n f) (t : Tells n holds f L) where
   pub hides-truth : (w : List ℕ) → Hides n i L w → Satisfies holds (hidden i f) w
   hides-truth w h =
-      let u : List ℕ = h .0 in
-      (coded i u, truth-local n holds f names (λ j. coded j u) (instead i (coded i u) (λ j. coded j w))
-        (λ j l. ⊎-elim (λ e. subst (λ k. coded k u ≡ instead i (coded i u) (λ x. coded x w) k) (sym e) (sym (instead-here i (coded i u) (λ x. coded x w))))
-          (λ other. h .2 j l other ∙ sym (instead-there i (coded i u) (λ x. coded x w) j other)) (cases-eq j i))
-        (t u (h .1) .0 (h .3)))
+      let u : List ℕ = h .0 in (
+        coded i u,
+        truth-local n holds f names (λ j. coded j u) (instead i (coded i u) (λ j. coded j w))
+            (λ j l. ⊎-elim (λ e. subst (λ k. coded k u ≡ instead i (coded i u) (λ x. coded x w) k) (sym e) (sym (instead-here i (coded i u) (λ x. coded x w))))
+            (λ other. h .2 j l other ∙ sym (instead-there i (coded i u) (λ x. coded x w) j other)) (cases-eq j i))
+            (t u (h .1) .0 (h .3)),
+      )
 
   pub truth-hides : (w : List ℕ) → Satisfies holds (hidden i f) w → Hides n i L w
   truth-hides w h =
       let x : ℕ → ℕ = instead i (h .0) (λ j. coded j w) in
-      let u = every-choice n x in
-      (u .0, u .1, (λ j l other. u .2 j l ∙ instead-there i (h .0) (λ k. coded k w) j other),
-       t (u .0) (u .1) .1 (truth-local n holds f names x (λ j. coded j (u .0)) (λ j l. sym (u .2 j l)) (h .1)))
+      let u = every-choice n x in (
+        u .0,
+        u .1,
+        (λ j l other. u .2 j l ∙ instead-there i (h .0) (λ k. coded k w) j other),
+        t (u .0) (u .1) .1 (truth-local n holds f names x (λ j. coded j (u .0)) (λ j l. sym (u .2 j l)) (h .1)),
+      )

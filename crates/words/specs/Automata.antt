@@ -36,3 +36,11 @@ language m w = m .final (reach m w)
 
 abbrev pub SameReach : {S : Type 0} → Moves S → List ℕ → List ℕ → Type 0
 SameReach m u w = reach m u ≡ reach m w
+
+-- two automata side by side, with one answer from their two
+abbrev pub side-by-side : Automaton → Automaton → (Bool → Bool → Bool) → Moves (ℕ × ℕ)
+side-by-side a b joins = record {
+  start = (a .start, b .start);
+  next = λ s c. (a .step (s .0) c, b .step (s .1) c);
+  final = λ s. joins (a .accepts (s .0)) (b .accepts (s .1));
+}
