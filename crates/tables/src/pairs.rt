@@ -14,13 +14,13 @@ pub enum Join {
 
 /// Two tables side by side: a state is a pair of theirs.
 #[derive(Clone, Copy)]
-pub struct Pairs<'a> {
-    pub lower: Rows<'a>,
-    pub upper: Rows<'a>,
+pub struct Pairs<'l, 'u> {
+    pub lower: Rows<'l>,
+    pub upper: Rows<'u>,
     pub join: Join,
 }
 
-pub impl<'a> Kind for Pairs<'a> as PairsKind {
+pub impl<'l, 'u> Kind for Pairs<'l, 'u> as PairsKind {
     type State = (u16, u16);
 
     ghost moves = { paired };
