@@ -1,5 +1,7 @@
 //! How the calls of a tray grow with states and sets. It prints the counts of each call, and with the argument `times`
 //! how long each took.
+#![tactic(auto)]
+
 mod call;
 mod chain;
 mod measure;

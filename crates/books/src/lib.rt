@@ -1,4 +1,6 @@
 //! Books of predicates on finite sets, the set rule that each owes, and the standard book.
+#![tactic(auto)]
+
 mod book;
 mod question;
 mod standard;

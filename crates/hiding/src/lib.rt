@@ -1,4 +1,6 @@
 //! Hiding a set of a table: the table of the words that code the same sets, but for one, as a word that the table accepts.
+#![tactic(auto)]
+
 mod closing;
 mod hide;
 mod state_set;

@@ -1,4 +1,6 @@
 //! Judging a table: whether no sets, some or all meet the claim, with the earliest word of either kind.
+#![tactic(auto)]
+
 mod verdict;
 mod walk;
 

@@ -1,4 +1,6 @@
 //! Tables written as text.
+#![tactic(auto)]
+
 mod laying;
 mod table;
 

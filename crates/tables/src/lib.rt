@@ -1,4 +1,6 @@
 //! From any kind of state to the table of what it accepts.
+#![tactic(auto)]
+
 mod exploration;
 mod kind;
 mod laws;

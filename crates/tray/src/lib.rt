@@ -1,4 +1,6 @@
 //! The tray of tables: the calls that build tables for formulas, and the call that judges one.
+#![tactic(auto)]
+
 mod asked;
 mod control;
 mod hidden;

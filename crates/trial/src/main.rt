@@ -1,4 +1,6 @@
 //! Two boards on trial: reads recorded words and claims from standard input, and prints an account of each.
+#![tactic(auto)]
+
 mod account;
 mod call;
 mod claim;

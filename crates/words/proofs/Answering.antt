@@ -1,9 +1,9 @@
 -- A table accepts the words of its language, and is the table of the words that it accepts.
-use Rattle.std.proofs.Common.{◌≡◌, ℕ, ◌+◌, ◌*◌, ◌^◌, ◌<◌, ◌≤◌, Bool, true, false, cond, ◌&&◌, eqb, ltb, List, [], ◌∷◌, ◌++◌, sym, refl, ap, ◌∙◌, subst, arith}
+use Rattle.std.proofs.Common.{◌≡◌, ℕ, ◌^◌, ◌<◌, Bool, true, false, cond, ◌&&◌, eqb, ltb, List, [], ◌∷◌, ◌++◌, sym, refl, ap, ◌∙◌, subst}
 use Rattle.std.proofs.lemmas.Bool.{lt-ltb, and_from, cond-true}
 use Rattle.std.proofs.lemmas.List.{append-nil, append_assoc}
 use Rattle.words.specs.Words.{Columns}
-use Rattle.words.specs.Automata.{run, accepted}
+use Rattle.words.specs.Automata.{run}
 use Rattle.words.specs.Rows.{written, next_of, mark_of}
 use Rattle.words.specs.Residuals.{SameResidual}
 use Rattle.words.specs.TableOf.{TableOf, answers}

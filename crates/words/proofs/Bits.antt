@@ -1,5 +1,5 @@
 -- A set by its lowest position and the rest: the set d + 2 * s has 0 as a member when d is 1, and p + 1 when s has p.
-use Rattle.std.proofs.Common.{◌≡◌, ℕ, zero, suc, ◌+◌, ◌*◌, ◌/◌, ◌%◌, ◌^◌, ◌<◌, ◌≤◌, Bool, true, false, ◌↔◌, Decides, sym, refl, ap, ◌∙◌, subst, ⊎_elim, le_refl, mul_assoc, pow-suc, zero-mul, one-add, arith}
+use Rattle.std.proofs.Common.{◌≡◌, ℕ, zero, suc, ◌+◌, ◌*◌, ◌/◌, ◌%◌, ◌^◌, ◌<◌, ◌≤◌, Bool, true, false, ◌↔◌, Decides, sym, refl, ap, ◌∙◌, ⊎_elim, le_refl, mul_assoc, pow-suc, zero-mul, one-add, arith}
 use native.Mathlib.Nat.{div-eq_of_lt}
 use lib.Arith.{bin_ind, half_le}
 use Rattle.std.proofs.lemmas.Bool.{cases_eq, false≢true}

@@ -1,9 +1,9 @@
 -- A chart of the states met so far, breadth first: the states before `at` have their whole row, and `at` its first k columns.
 -- States, links and rows are functions of the index here; the code has them in memory.
-use Rattle.std.proofs.Common.{◌≡◌, ℕ, zero, suc, ◌+◌, ◌^◌, ◌<◌, ◌≤◌, Bool, cond, ◌⊎◌, List, [], ◌∷◌, ◌++◌, sym, refl, ap, ◌∙◌, subst, ap₂, subst₂, inl, inr, ⊎_elim, arith}
-use Rattle.std.proofs.lemmas.Bool.{cases_lt, cases_eq, cases_order}
+use Rattle.std.proofs.Common.{◌≡◌, ℕ, ◌+◌, ◌^◌, ◌<◌, ◌≤◌, cond, ◌⊎◌, List, [], ◌∷◌, ◌++◌, sym, ap, ◌∙◌, subst, ap₂, subst₂, inl, inr, ⊎_elim, arith}
+use Rattle.std.proofs.lemmas.Bool.{cases_lt}
 use Rattle.words.specs.Words.{Columns}
-use Rattle.words.specs.Order.{Before, NotLater, Precedes, PairBefore, PairNotAfter, nth_column, column_place}
+use Rattle.words.specs.Order.{Before, PairBefore, PairNotAfter, nth_column, column_place}
 use Rattle.words.specs.Automata.{Moves, run, reach, SameReach}
 use Rattle.words.specs.Links.{trail}
 use Rattle.words.specs.Residuals.{MoreThan}

@@ -1,7 +1,6 @@
 -- Counting: exactly k and more than k exclude each other, and two exact counts are one.
-use Rattle.std.proofs.Common.{◌≡◌, ℕ, zero, suc, ◌+◌, ◌-◌, ◌<◌, ◌≤◌, ◌⊎◌, List, sym, refl, ap, ◌∙◌, subst, inl, inr, ⊎_elim, arith}
+use Rattle.std.proofs.Common.{◌≡◌, ℕ, zero, suc, ◌-◌, ◌<◌, ◌≤◌, ◌⊎◌, List, sym, refl, subst, inl, inr, arith}
 use Rattle.std.proofs.lemmas.Bool.{cases_lt, cases_order}
-use Rattle.words.specs.Words.{Columns}
 use Rattle.words.specs.Residuals.{Count, MoreThan, Equality}
 
 -- ---- a choice for each number below k is a function

@@ -1,7 +1,7 @@
 -- An automaton decides a relation where each state has a meaning of its own: what its meaning says of the empty sets is
 -- whether it accepts, and what it says of the sets that begin with a column is what the next state's says of the rests.
-use Rattle.std.proofs.Common.{◌≡◌, ℕ, zero, suc, ◌^◌, ◌<◌, Bool, true, false, ◌&&◌, ◌↔◌, List, [], ◌∷◌, sym, refl, ap, ◌∙◌, subst, ⊎_elim, arith}
-use Rattle.std.proofs.lemmas.Bool.{cases_lt, and_parts}
+use Rattle.std.proofs.Common.{◌≡◌, ℕ, zero, suc, ◌^◌, ◌<◌, Bool, true, ◌&&◌, ◌↔◌, List, [], ◌∷◌, arith}
+use Rattle.std.proofs.lemmas.Bool.{and_parts}
 use Rattle.words.specs.Words.{Columns, sets}
 use Rattle.words.specs.Automata.{run}
 

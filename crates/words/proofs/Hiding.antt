@@ -1,13 +1,13 @@
 -- Hiding a set looks past the word's end: a word codes sets of which some have a set in place of set i in the language,
 -- exactly when some word that is equal to it but for bit i, and then some columns with no bit but i, lead to acceptance.
-use Rattle.std.proofs.Common.{◌≡◌, ℕ, zero, suc, ◌+◌, ◌-◌, ◌*◌, ◌/◌, ◌%◌, ◌^◌, ◌<◌, ◌≤◌, Bool, true, ◌⊎◌, List, [], ◌∷◌, ◌++◌, length, get_or, take, drop, replicate, sym, refl, ap, ◌∙◌, subst, ap₂, inl, inr, ⊎_elim, lt_of_lt_of_le, pow-suc, arith, pow_pos, pow_mono}
+use Rattle.std.proofs.Common.{◌≡◌, ℕ, zero, suc, ◌+◌, ◌*◌, ◌/◌, ◌%◌, ◌^◌, ◌<◌, ◌≤◌, Bool, true, List, [], ◌∷◌, ◌++◌, replicate, sym, refl, ap, ◌∙◌, subst, ap₂, ⊎_elim, lt_of_lt_of_le, pow-suc, arith, pow_pos, pow_mono}
 use Rattle.std.proofs.lemmas.Bool.{cases_eq, cases_lt}
 use Rattle.std.proofs.lemmas.List.{append-nil}
-use Rattle.words.specs.Sets.{bit, Member}
+use Rattle.words.specs.Sets.{bit}
 use Rattle.words.specs.Words.{Columns, coded}
 use Rattle.words.specs.Hiding.{turned, AgreeBut, EqualBut, OnlyBit, Hides}
 use Rattle.words.proofs.Bits.{bit_small, bit_of_zero, bit_low, bit_high, bit_past, bits_equal}
-use Rattle.words.proofs.Coding.{coded_bit, columns_append, zeros_at_end}
+use Rattle.words.proofs.Coding.{columns_append}
 
 -- ---- columns with another bit i
 

@@ -1,9 +1,8 @@
 -- Merging by classes. A class is named by its lowest state. Each pass splits the classes by where one column leads; states
 -- that no word tells apart are never split, and when no column splits anything, states of one class are not told apart.
-use Rattle.std.proofs.Common.{◌≡◌, ℕ, zero, suc, ◌+◌, ◌-◌, ◌^◌, ◌<◌, ◌≤◌, Bool, ◌⊎◌, List, [], ◌∷◌, sym, refl, ap, ◌∙◌, subst, inl, inr, ⊎_elim, arith}
-use Rattle.std.proofs.lemmas.Bool.{cases_lt, cases_order, cases_eq}
-use Rattle.words.specs.Words.{Columns}
-use Rattle.words.specs.Automata.{Automaton, run}
+use Rattle.std.proofs.Common.{◌≡◌, ℕ, zero, suc, ◌+◌, ◌-◌, ◌^◌, ◌<◌, ◌≤◌, ◌⊎◌, [], ◌∷◌, sym, refl, ap, ◌∙◌, subst, inl, inr, ⊎_elim, arith}
+use Rattle.std.proofs.lemmas.Bool.{cases_lt, cases_order}
+use Rattle.words.specs.Automata.{Automaton}
 use Rattle.words.specs.Residuals.{SameFrom}
 
 -- r is the lowest number with P

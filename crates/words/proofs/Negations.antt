@@ -1,6 +1,5 @@
 -- Rows with every mark turned over are the table of the words that the language lacks.
 use Rattle.std.proofs.Common.{◌≡◌, ℕ, ◌^◌, ◌<◌, Bool, true, false, cond, not, eqb, List, [], ◌∷◌, ◌++◌, sym, refl, ap, ◌∙◌, subst}
-use Rattle.words.specs.Words.{Columns}
 use Rattle.words.specs.Rows.{next_of, mark_of}
 use Rattle.words.specs.Residuals.{SameResidual}
 use Rattle.words.specs.TableOf.{TableOf}

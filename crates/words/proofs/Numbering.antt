@@ -1,8 +1,8 @@
 -- Breadth-first numbering. The states of a table were numbered as they were met: each but the first from its parent by a
 -- column, and both in order. Then the words through the parents are in order, and each is the earliest that leads to its state.
-use Rattle.std.proofs.Common.{◌≡◌, ℕ, zero, suc, ◌+◌, ◌^◌, ◌<◌, ◌≤◌, ◌⊎◌, List, [], ◌∷◌, ◌++◌, sym, refl, ap, ◌∙◌, subst, ap₂, inl, inr, le_refl, arith}
+use Rattle.std.proofs.Common.{◌≡◌, ℕ, zero, suc, ◌^◌, ◌<◌, ◌≤◌, List, [], ◌∷◌, ◌++◌, sym, refl, ap, ◌∙◌, subst, ap₂, inl, inr, le_refl, arith}
 use Rattle.words.specs.Words.{Columns}
-use Rattle.words.specs.Order.{Before, Precedes, NotLater, PairBefore, PairNotAfter}
+use Rattle.words.specs.Order.{Precedes, NotLater, PairBefore, PairNotAfter}
 use Rattle.words.specs.Automata.{run}
 use Rattle.words.specs.Links.{trace, trail}
 use Rattle.words.proofs.Orders.{chain, push_before, push_same, nil_before}

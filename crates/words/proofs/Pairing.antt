@@ -1,7 +1,7 @@
 -- The state of a table after a word, and two tables side by side.
-use Rattle.std.proofs.Common.{◌≡◌, ℕ, ◌^◌, ◌<◌, Bool, ◌&&◌, ◌||◌, List, [], ◌∷◌, ◌++◌, sym, refl, ap, ◌∙◌, subst, ap₂}
+use Rattle.std.proofs.Common.{◌≡◌, ℕ, Bool, List, [], ◌∷◌, ◌++◌, sym, refl, ap, ◌∙◌, ap₂}
 use Rattle.words.specs.Words.{Columns}
-use Rattle.words.specs.Automata.{Automaton, Moves, run, reach, SameReach, accepted, language, side_by_side}
+use Rattle.words.specs.Automata.{Automaton, run, reach, SameReach, accepted, language, side_by_side}
 use Rattle.words.specs.Rows.{written}
 use Rattle.words.specs.Residuals.{SameResidual, SamePair, Equality, Count, MoreThan}
 use Rattle.words.specs.TableOf.{TableOf}

@@ -1,7 +1,7 @@
 -- How a relation between sets changes as one column is read: the sets d + 2 * a and so on, for bits d of the column, stand
 -- in it exactly when the rests a and so on stand in a relation that is named here.
 use Rattle.std.proofs.Common.{◌≡◌, ℕ, zero, suc, ◌+◌, ◌*◌, ◌<◌, ◌↔◌, sym, refl, ap, ◌∙◌, subst, arith}
-use Rattle.words.specs.Sets.{bit, Member, Empty, Only, value}
+use Rattle.words.specs.Sets.{Member, Empty, Only}
 use Rattle.words.specs.Relations.{Within, Singleton, Successor, Less, Sum}
 use Rattle.words.proofs.Bits.{bit_of_zero, bit_low, bit_high, value_is}
 

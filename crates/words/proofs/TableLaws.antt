@@ -1,7 +1,6 @@
 -- The table of a language is unique, row by row, and its states are counted by the residuals.
-use Rattle.std.proofs.Common.{◌≡◌, ℕ, zero, suc, ◌+◌, ◌*◌, ◌^◌, ◌<◌, ◌≤◌, Bool, cond, ◌⊎◌, List, [], ◌∷◌, ◌++◌, sym, refl, ap, ◌∙◌, subst, inl, inr, ⊎_elim, arith}
+use Rattle.std.proofs.Common.{◌≡◌, ℕ, zero, suc, ◌^◌, ◌<◌, ◌≤◌, Bool, cond, ◌⊎◌, List, [], ◌∷◌, ◌++◌, sym, refl, ap, ◌∙◌, subst, inl, inr, ⊎_elim, arith}
 use Rattle.std.proofs.lemmas.Bool.{cases_lt, cases_order}
-use Rattle.words.specs.Words.{Columns}
 use Rattle.words.specs.Order.{Precedes, NotLater}
 use Rattle.words.specs.Rows.{next_of, mark_of}
 use Rattle.words.specs.Residuals.{SameResidual, Count, Equality}

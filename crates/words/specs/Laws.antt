@@ -1,5 +1,5 @@
 -- What the definitions of sets, words and their order come to, as statements. The function `laws` carries their proofs.
-use Rattle.std.specs.Prelude.{◌≡◌, ℕ, ◌<◌, ◌⊎◌, ◌↔◌, List, ◌++◌, length, replicate, slice_index}
+use Rattle.std.specs.Prelude.{◌≡◌, ℕ, ◌<◌, ◌⊎◌, ◌↔◌, List, ◌++◌, replicate, slice_index}
 use Rattle.words.specs.Sets.{bit, Member, value}
 use Rattle.words.specs.Words.{Columns, coded}
 use Rattle.words.specs.Order.{Precedes}

@@ -1,6 +1,6 @@
 -- An automaton written out as one row for each state: the next states, one for each column in order, and then a mark,
 -- 1 for an accepting state and 0 for another. Row s begins at s * (2^places + 1).
-use Rattle.std.specs.Prelude.{ℕ, ◌+◌, ◌*◌, ◌^◌, Bool, cond, ◌&&◌, List, ◌==◌, nat_lt, slice_index}
+use Rattle.std.specs.Prelude.{ℕ, ◌+◌, ◌*◌, ◌^◌, cond, ◌&&◌, List, ◌==◌, nat_lt, slice_index}
 use Rattle.words.specs.Automata.{Automaton}
 
 -- how many numbers a row has

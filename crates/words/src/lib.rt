@@ -1,4 +1,6 @@
 //! Finite sets of positions, the words of columns that code them, and automata written out in rows.
+#![tactic(auto)]
+
 mod laws;
 mod rows;
 mod word;

@@ -9,7 +9,7 @@ has : (g : given.Over) (c : goal.After-run g) → c.args.p < g.B.Book.size c.arg
 has g c = subst (λ k. c.args.p < k) c.count.ensures c.if-p-count.false
 
 fit : (g : given.Over) (c : goal.After-run g) → Columns (g.B.Book.automaton c.args.book.now c.args.p).places c.args.word.now
-fit g c = subst (λ k. Columns k c.args.word.now) c.places.ensures c.in-default.ensures
+fit g c = subst (λ k. Columns k c.args.word.now) c.places.ensures c.in_default.ensures
 
 pub returns : goal.returns
 returns g c = (

@@ -9,7 +9,7 @@ returns c =
     record {
       found =
           hidden_from c.args.rows.now.places c.args.hidden inside c.args.rows.now.cells.now c.args.rows.now.states few
-          c.closing-set.result c.closing-set.ensures c.args.budget
+          c.closing_set.result c.closing_set.ensures c.args.budget
           c.args.records.now c.args.links.now c.args.spare.now c.args.table.now
           c.tabulate.new.records c.tabulate.new.links c.tabulate.new.spare c.tabulate.new.tables
           c.tabulate.result c.tabulate.ensures.found;

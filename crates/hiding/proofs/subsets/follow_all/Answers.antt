@@ -16,7 +16,7 @@ pub loop-k-preserved : goal.loop-k-preserved
 loop-k-preserved c =
     let act : ℕ → StateSet → StateSet =
     followed (described c.args.rows.now) c.args.reads.off c.args.reads.on in
-    c.follow-word.ensures ∙ ap₂ (walked act 64 (c.loop-k.k * 64)) (c.word.ensures ∙ ap (λ k. get_or c.args.from.now.words k 0) c.from.ensures) c.loop-k.invariant ∙ sym (words_more act c.args.from.now.words c.loop-k.k no_states)
+    c.follow_word.ensures ∙ ap₂ (walked act 64 (c.loop-k.k * 64)) (c.word.ensures ∙ ap (λ k. get_or c.args.from.now.words k 0) c.from.ensures) c.loop-k.invariant ∙ sym (words_more act c.args.from.now.words c.loop-k.k no_states)
 
 pub returns : goal.returns
 unfolding gathered

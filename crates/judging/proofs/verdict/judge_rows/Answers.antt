@@ -4,8 +4,8 @@ use Rattle.judging.proofs.verdict.judge_rows.Goals as goal
 
 pub returns : goal.returns
 returns c =
-    let met = c.write-earliest-met in
-    let missed = c.write-earliest-missed in (
+    let met = c.write_earliest-met in
+    let missed = c.write_earliest-missed in (
       omega (arith, c.from-states.ensures, c.if-witness-states.false),
       omega (arith, c.from-states.ensures, c.if-counterexample-states.false),
       c.from-states.ensures,
@@ -13,5 +13,5 @@ returns c =
       missed.ensures.0,
       λ L t.
           judged c.args.rows.now.places L c.args.witness.now c.args.counterexample.now met.new.buffer missed.new.buffer
-          c.args.rows.now.cells.now c.args.rows.now.states _ t c.from-states.ensures c.verdict-by.ensures (met.ensures.1 L t) (missed.ensures.1 L t),
+          c.args.rows.now.cells.now c.args.rows.now.states _ t c.from-states.ensures c.verdict_by.ensures (met.ensures.1 L t) (missed.ensures.1 L t),
     )

@@ -8,16 +8,16 @@ pub returns-then-step-state : goal.returns-then-step-state
 returns-then-step-state c =
     let small : c.args.rows.now.places < 64 = omega (arith, c.args.rows.now.few) in
     let left : c.loop-k.k < 2 ^ c.args.rows.now.places = omega (arith, one_shl c.args.rows.now.places 64 small, c.loop-k-test.true) in
-    column_found (described c.args.rows.now) c.args.state c.args.row c.loop-k.k c.nth-column-column.result
-    c.args.rows.now.few left c.nth-column-column.ensures (sym c.step.ensures ∙ c.if-step-state.true) c.loop-k.invariant
+    column_found (described c.args.rows.now) c.args.state c.args.row c.loop-k.k c.nth_column-column.result
+    c.args.rows.now.few left c.nth_column-column.ensures (sym c.step.ensures ∙ c.if-step-state.true) c.loop-k.invariant
 
 pub loop-k-preserved : goal.loop-k-preserved
 loop-k-preserved c =
     let small : c.args.rows.now.places < 64 = omega (arith, c.args.rows.now.few) in
     let left : c.loop-k.k < 2 ^ c.args.rows.now.places = omega (arith, one_shl c.args.rows.now.places 64 small, c.loop-k-test.true) in
     below_more _ _ c.loop-k.invariant
-    (column_missed (described c.args.rows.now) c.args.state c.args.row c.loop-k.k c.nth-column-column.result
-    c.args.rows.now.few left c.nth-column-column.ensures (λ e. c.if-step-state.false (c.step.ensures ∙ e)))
+    (column_missed (described c.args.rows.now) c.args.state c.args.row c.loop-k.k c.nth_column-column.result
+    c.args.rows.now.few left c.nth_column-column.ensures (λ e. c.if-step-state.false (c.step.ensures ∙ e)))
 
 pub returns : goal.returns
 returns c =

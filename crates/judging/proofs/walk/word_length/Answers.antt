@@ -7,4 +7,4 @@ loop-link-preserved c =
 
 pub returns : goal.returns
 returns c =
-    walk_end c.args.rows.now c.args.state c.loop-link.count c.loop-link.at c.loop-link.invariant c.in-default.ensures
+    walk_end c.args.rows.now c.args.state c.loop-link.count c.loop-link.at c.loop-link.invariant c.in_default.ensures

@@ -5,11 +5,11 @@ use Rattle.judging.proofs.walk.write_word.Goals as goal
 pub loop-k-init : goal.loop-k-init
 loop-k-init c = spell_start c.args.rows.now c.args.state c.args.count c.args.buffer.now
 
-pub returns-in-default : goal.returns-in-default
-returns-in-default c =
+pub returns-in_default : goal.returns-in_default
+returns-in_default c =
     let room : c.args.count ≤ length c.loop-k.buffer = omega (arith, c.requires.room, c.loop-k.auto.buffer) in
     spell_ends c.args.rows.now c.args.state c.args.count c.loop-k.k c.loop-k.at c.args.buffer.now c.loop-k.buffer c.loop-k.invariant
-    c.loop-k.auto.k room c.loop-k-test.true c.in-default.ensures
+    c.loop-k.auto.k room c.loop-k-test.true c.in_default.ensures
 
 pub loop-k-preserved : goal.loop-k-preserved
 loop-k-preserved c =

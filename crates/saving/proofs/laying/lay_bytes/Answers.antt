@@ -8,7 +8,7 @@ loop-byte-preserved c =
     let i = c.loop-byte.byte-index in
     let bytes = c.args.bytes.now in
     lays_as _ _ _ _ _ _ (sym (take_more bytes i 0 c.loop-byte-test.true))
-    (lays_then (take i bytes) (get_or bytes i 0 ∷ []) _ _ _ _ _ _ c.loop-byte.invariant c.lay-byte-end.ensures)
+    (lays_then (take i bytes) (get_or bytes i 0 ∷ []) _ _ _ _ _ _ c.loop-byte.invariant c.lay_byte-end.ensures)
 
 pub returns : goal.returns
 returns c =

@@ -8,24 +8,24 @@ use Rattle.saving.proofs.table.lay_nexts.Goals as goal
 pub loop-column-init : goal.loop-column-init
 loop-column-init c = (lays_none c.args.at c.args.buffer.now, omega arith)
 
-pub lay-byte-end-requires : goal.lay-byte-end-requires
-lay-byte-end-requires c =
+pub lay_byte-end-requires : goal.lay_byte-end-requires
+lay_byte-end-requires c =
     let n = c.args.rows.now.places in record {
       fits = omega (arith, one_shl n 8 (omega (arith, c.requires.few)), at_most_sixteen n c.requires.few, c.loop-column-test.true, c.loop-column.invariant.1, c.requires.fits);
     }
 
-pub lay-number-end-requires : goal.lay-number-end-requires
-lay-number-end-requires c =
+pub lay_number-end-requires : goal.lay_number-end-requires
+lay_number-end-requires c =
     let n = c.args.rows.now.places in record {
       fits =
-          omega (arith, one_shl n 8 (omega (arith, c.requires.few)), at_most_sixteen n c.requires.few, c.loop-column-test.true, c.loop-column.invariant.1, c.requires.fits, c.lay-byte-end.ensures.0);
+          omega (arith, one_shl n 8 (omega (arith, c.requires.few)), at_most_sixteen n c.requires.few, c.loop-column-test.true, c.loop-column.invariant.1, c.requires.fits, c.lay_byte-end.ensures.0);
     }
 
 pub loop-column-preserved : goal.loop-column-preserved
 loop-column-preserved c =
     let a = described c.args.rows.now in (
-      next_more a c.args.state c.loop-column.column _ _ _ _ _ _ _ _ c.loop-column.invariant.0 c.lay-byte-end.ensures _ c.step.ensures c.lay-number-end.ensures.lays,
-      omega (arith, c.loop-column.invariant.1, c.lay-byte-end.ensures.0, c.lay-number-end.ensures.short),
+      next_more a c.args.state c.loop-column.column _ _ _ _ _ _ _ _ c.loop-column.invariant.0 c.lay_byte-end.ensures _ c.step.ensures c.lay_number-end.ensures.lays,
+      omega (arith, c.loop-column.invariant.1, c.lay_byte-end.ensures.0, c.lay_number-end.ensures.short),
     )
 
 pub returns : goal.returns

@@ -10,9 +10,9 @@ returns g c =
     let small : c.args.sets < 64 = omega (arith, c.requires.room.sets) in
     let columns = one_shl c.args.sets 64 small in
     let long : c.args.budget * width c.args.sets ≤ length c.loop-k.rows = omega (arith, c.requires.room.rows_enough, c.loop-k.auto.rows) in
-    let here : c.args.at < c.loop-k.now-met = omega (arith, c.requires.here, c.loop-k.invariant.1) in
+    let here : c.args.at < c.loop-k.now_met = omega (arith, c.requires.here, c.loop-k.invariant.1) in
     let within : c.args.at < length c.loop-k.records = omega (arith, here, c.loop-k.invariant.2, c.requires.room.records_enough, c.loop-k.auto.records) in
-    let end = row_end (g.K.Kind.moves c.args.kind.now) c.args.sets c.args.budget c.args.at c.loop-k.now-met
+    let end = row_end (g.K.Kind.moves c.args.kind.now) c.args.sets c.args.budget c.args.at c.loop-k.now_met
     c.loop-k.records c.loop-k.links c.loop-k.rows c.requires.room.sets long here c.loop-k.invariant.2
     c.loop-k.k (omega (arith, columns, c.loop-k-test.false, c.loop-k.auto.k-end)) c.loop-k.invariant.0
     c.index-records-at.result

@@ -19,13 +19,13 @@ loop-s-preserved c =
           (w.leaders-is ∙ w.put-then-own-s.ensures ∙ ap (λ i. set c.loop-s.leaders i s) w.from-then-own-s.ensures)
           w.count-is
           (numbered_new class s c.loop-s.numbers c.loop-s.leaders c.loop-s.count c.loop-s.invariant room wide
-          (sym c.class-at-own.ensures ∙ w.if-own-s.true))
+          (sym c.class_at-own.ensures ∙ w.if-own-s.true))
       | else-own-s w ↦
-          let lower : class s < s = omega (arith, c.requires.low s c.loop-s-test.true, c.class-at-own.ensures, w.if-own-s.false) in
+          let lower : class s < s = omega (arith, c.requires.low s c.loop-s-test.true, c.class_at-own.ensures, w.if-own-s.false) in
           numbered_at class (s + 1) (set c.loop-s.numbers s (class_of c.loop-s.numbers (class s))) c.loop-s.leaders c.loop-s.count
           c.if-own-s.numbers c.if-own-s.leaders c.if-own-s.count
           (w.numbers-is ∙ w.put-else-own-s.ensures
-          ∙ ap₂ (λ i v. set c.loop-s.numbers i v) w.from-else-own-s.ensures (w.class-at-number.ensures ∙ ap (class_of c.loop-s.numbers) c.class-at-own.ensures))
+          ∙ ap₂ (λ i v. set c.loop-s.numbers i v) w.from-else-own-s.ensures (w.class_at-number.ensures ∙ ap (class_of c.loop-s.numbers) c.class_at-own.ensures))
           w.leaders-is w.count-is
           (numbered_old class s c.loop-s.numbers c.loop-s.leaders c.loop-s.count c.loop-s.invariant room lower (c.requires.itself s c.loop-s-test.true))
     ]

@@ -6,7 +6,7 @@ use Rattle.tables.proofs.merging.refine.Goals as goal
 
 pub loop-found-init : goal.loop-found-init
 loop-found-init c = (
-  first_classes c.args.raw.now.places (described c.args.raw.now) c.args.raw.now.states (class_of c.by-mark.new.class) c.by-mark.ensures,
+  first_classes c.args.raw.now.places (described c.args.raw.now) c.args.raw.now.states (class_of c.by_mark.new.class) c.by_mark.ensures,
   λ e. absurd (true≢false e),
 )
 

@@ -28,23 +28,23 @@ module _ (c : goal.After-from) where
   next =
       let x : ℕ = bit (get_or c.args.listed.now (c.loop-j.j - 1) 0) c.args.column in
       let read : c.from.result ≡ x =
-      c.from.ensures ∙ byte_of_bit c.in-set.result x (bit_small (get_or c.args.listed.now (c.loop-j.j - 1) 0) c.args.column) c.in-set.ensures in
+      c.from.ensures ∙ byte_of_bit c.in_set.result x (bit_small (get_or c.args.listed.now (c.loop-j.j - 1) 0) c.args.column) c.in_set.ensures in
       omega (arith, read, more c.args.listed.now c.args.column c.loop-j.j c.loop-j.read c.loop-j-test.true c.loop-j.auto.j c.loop-j.invariant)
 
 pub loop-j-init : goal.loop-j-init
 loop-j-init c =
     sym (ap (λ l. through l c.args.column) (drop_all (length c.args.listed.now) c.args.listed.now (omega arith)))
 
-pub overflow-mul-read : goal.overflow-mul-read
-overflow-mul-read c =
+pub overflow_mul-read : goal.overflow_mul-read
+overflow_mul-read c =
     omega (
       arith,
       more c.args.listed.now c.args.column c.loop-j.j c.loop-j.read c.loop-j-test.true c.loop-j.auto.j c.loop-j.invariant,
       fits c.args.listed.now c.args.column (c.loop-j.j - 1) c.requires,
     )
 
-pub overflow-add-read : goal.overflow-add-read
-overflow-add-read c = omega (arith, next c, fits c.args.listed.now c.args.column (c.loop-j.j - 1) c.requires)
+pub overflow_add-read : goal.overflow_add-read
+overflow_add-read c = omega (arith, next c, fits c.args.listed.now c.args.column (c.loop-j.j - 1) c.requires)
 
 pub loop-j-preserved : goal.loop-j-preserved
 loop-j-preserved c = sym (next c)

@@ -18,9 +18,9 @@ pub loop-j-preserved : goal.loop-j-preserved
 loop-j-preserved c =
     let n : ℕ = c.args.sets in
     let j : ℕ = c.loop-j.j in
-    let w : ℕ = c.row-width-width.result in
+    let w : ℕ = c.row_width-width.result in
     let at : ℕ = c.args.base + (j * w + (w - 1)) in
-    let is : at ≡ mark_at n c.args.base j = last_of_row n c.args.base j w c.row-width-width.ensures.is in
+    let is : at ≡ mark_at n c.args.base j = last_of_row n c.args.base j w c.row_width-width.ensures.is in
     let inside : at < length c.loop-j.tables =
     omega (arith, is, c.requires.room, c.loop-j.auto.tables, cell_below (width n) c.args.size j (2 ^ n) c.loop-j-test.true (omega arith)) in
     subst (Flipped n c.args.base (j + 1) c.args.tables.now) (sym c.put.ensures)

@@ -19,7 +19,7 @@ pub loop-p-preserved : goal.loop-p-preserved
 loop-p-preserved c =
     let p : ℕ = c.loop-p.p in
     let column : c.column.result ≡ bit 0 (get_or c.args.word.now p 0) + 2 * bit 1 (get_or c.args.word.now p 0) + 4 * bit p c.args.sum =
-    c.column.ensures (bit p c.args.sum) (bit_small p c.args.sum) c.is-member.ensures
+    c.column.ensures (bit p c.args.sum) (bit_small p c.args.sum) c.is_member.ensures
     ∙ ap (λ x. bit 0 x + 2 * bit 1 x + 4 * bit p c.args.sum) (inputs c) in
-    subst (Corrected c.args.word.now c.args.sum (p + 1)) (sym c.in-ok-push.ensures.items)
+    subst (Corrected c.args.word.now c.args.sum (p + 1)) (sym c.in_ok-push.ensures.items)
     (corrected_push c.args.word.now c.args.sum p (vec_items c.loop-p.fixed) c.column.result c.loop-p.invariant column)

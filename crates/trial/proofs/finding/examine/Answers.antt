@@ -2,19 +2,19 @@ use Rattle.std.proofs.Common.{◌+◌, ◌≤◌, length, arith}
 use Rattle.trial.proofs.Truth.{fits_word, found}
 use Rattle.trial.proofs.finding.examine.Goals as goal
 
-pub overflow-add-truth : goal.overflow-add-truth
-overflow-add-truth c =
+pub overflow_add-truth : goal.overflow_add-truth
+overflow_add-truth c =
     let short : length c.args.word.now ≤ 64 = omega arith in
-    omega (arith, fits_word c.args.word.now c.set-of-first.result c.set-of-second.result (c.set-of-first.ensures short) (c.set-of-second.ensures short) c.if-word-gt63.false)
+    omega (arith, fits_word c.args.word.now c.set_of-first.result c.set_of-second.result (c.set_of-first.ensures short) (c.set_of-second.ensures short) c.if-word-gt63.false)
 
 pub returns : goal.returns
 returns c =
     let short : length c.args.word.now ≤ 64 = omega arith in
     let more : length c.args.word.now ≤ length c.args.word.now + 1 = omega arith in
     let same : length c.args.word.now ≤ length c.args.word.now = omega arith in (
-      c.in-default.ensures,
+      c.in_default.ensures,
       c.if-word-gt63.false,
-      found c.args.word.now c.set-of-first.result c.set-of-second.result (c.set-of-first.ensures short) (c.set-of-second.ensures short)
-          c.set-of.result c.sums.result c.in-Ok.room c.in-Ok-sums-within.whole (c.set-of.ensures short)
-          (c.sums.ensures c.in-default.ensures) (c.in-Ok.ensures same) (c.in-Ok-sums-within.ensures more),
+      found c.args.word.now c.set_of-first.result c.set_of-second.result (c.set_of-first.ensures short) (c.set_of-second.ensures short)
+          c.set_of.result c.sums.result c.in-Ok.room c.in-Ok-sums_within.whole (c.set_of.ensures short)
+          (c.sums.ensures c.in_default.ensures) (c.in-Ok.ensures same) (c.in-Ok-sums_within.ensures more),
     )

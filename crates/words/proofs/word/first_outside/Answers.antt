@@ -1,4 +1,4 @@
-use Rattle.std.proofs.Common.{◌≤◌, length, take, subst, arith}
+use Rattle.std.proofs.Common.{subst}
 use Rattle.std.proofs.lemmas.List.{take_all}
 use Rattle.words.specs.Words.{Columns}
 use Rattle.words.proofs.Coding.{columns_more}
@@ -6,7 +6,7 @@ use Rattle.words.proofs.word.first_outside.Goals as goal
 
 pub loop-i-preserved : goal.loop-i-preserved
 loop-i-preserved c = columns_more c.args.sets c.args.word.now c.loop-i.i c.loop-i-test.true c.loop-i.invariant
-    (c.is-column.ensures.0 c.if-not-is-column.false)
+    (c.is_column.ensures.0 c.if-not-is_column.false)
 
 pub returns : goal.returns
 returns c =

@@ -1,4 +1,4 @@
-use Rattle.std.proofs.Common.{ℕ, ◌/◌, ◌^◌, ◌<◌, lt_of_lt_of_le, arith, pow_mono}
+use Rattle.std.proofs.Common.{◌/◌, ◌^◌, ◌<◌, lt_of_lt_of_le, arith, pow_mono}
 use native.Mathlib.Nat.{div-eq_of_lt}
 use Rattle.std.proofs.lemmas.Bool.{eqb-true, eq-eqb, le-leb}
 use Rattle.words.proofs.Bits.{below_power}

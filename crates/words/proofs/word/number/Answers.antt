@@ -23,23 +23,23 @@ module _ (c : goal.After-from) where
   next =
       let x : ℕ = bit c.args.set (get_or c.args.word.now (c.loop-i.i - 1) 0) in
       let read : c.from.result ≡ x =
-      c.from.ensures ∙ byte_of_bit c.in-set.result x (bit_small c.args.set _) c.in-set.ensures in
+      c.from.ensures ∙ byte_of_bit c.in_set.result x (bit_small c.args.set _) c.in_set.ensures in
       omega (arith, read, more c.args.set c.args.word.now c.loop-i.i c.loop-i.sum c.loop-i-test.true c.loop-i.auto.i c.loop-i.invariant)
 
 pub loop-i-init : goal.loop-i-init
 loop-i-init c =
     sym (ap (coded c.args.set) (drop_all (length c.args.word.now) c.args.word.now (omega arith)))
 
-pub overflow-mul-sum : goal.overflow-mul-sum
-overflow-mul-sum c =
+pub overflow_mul-sum : goal.overflow_mul-sum
+overflow_mul-sum c =
     omega (
       arith,
       more c.args.set c.args.word.now c.loop-i.i c.loop-i.sum c.loop-i-test.true c.loop-i.auto.i c.loop-i.invariant,
       fits c.args.set c.args.word.now (c.loop-i.i - 1) c.if-word-gt64.false,
     )
 
-pub overflow-add-sum : goal.overflow-add-sum
-overflow-add-sum c = omega (arith, next c, fits c.args.set c.args.word.now (c.loop-i.i - 1) c.if-word-gt64.false)
+pub overflow_add-sum : goal.overflow_add-sum
+overflow_add-sum c = omega (arith, next c, fits c.args.set c.args.word.now (c.loop-i.i - 1) c.if-word-gt64.false)
 
 pub loop-i-preserved : goal.loop-i-preserved
 loop-i-preserved c = sym (next c)

@@ -5,23 +5,23 @@ use Rattle.words.proofs.Hiding.{turned_below}
 use Rattle.hiding.proofs.TurnedBits.{raised, stays_on}
 use Rattle.hiding.proofs.turning.Place.on.Goals as goal
 
-pub overflow-add-result : goal.overflow-add-result
-overflow-add-result c =
+pub overflow_add-result : goal.overflow_add-result
+overflow_add-result c =
     let small : c.args.column < 2 ^ 8 = omega arith in
     omega (
       arith,
       one_shl c.args.self.now.set 8 c.args.self.now.low,
-      raised c.args.self.now.set c.args.column (not_from_Decides c.in-set.result c.in-set.ensures c.if-in-set.false),
+      raised c.args.self.now.set c.args.column (not_from_Decides c.in_set.result c.in_set.ensures c.if-in_set.false),
       turned_below 8 c.args.self.now.set 1 c.args.column (omega arith) c.args.self.now.low small,
     )
 
-pub returns-then-in-set : goal.returns-then-in-set
-returns-then-in-set c = sym (stays_on c.args.self.now.set c.args.column (c.in-set.ensures.0 c.if-in-set.true))
+pub returns-then-in_set : goal.returns-then-in_set
+returns-then-in_set c = sym (stays_on c.args.self.now.set c.args.column (c.in_set.ensures.0 c.if-in_set.true))
 
-pub returns-else-in-set : goal.returns-else-in-set
-returns-else-in-set c =
+pub returns-else-in_set : goal.returns-else-in_set
+returns-else-in_set c =
     omega (
       arith,
       one_shl c.args.self.now.set 8 c.args.self.now.low,
-      raised c.args.self.now.set c.args.column (not_from_Decides c.in-set.result c.in-set.ensures c.if-in-set.false),
+      raised c.args.self.now.set c.args.column (not_from_Decides c.in_set.result c.in_set.ensures c.if-in_set.false),
     )

@@ -3,8 +3,8 @@ use mathlib.Core.Logic.{∥∥₁_map}
 use Rattle.tray.proofs.Builts.{keeps_moved, stands_same}
 use Rattle.tray.proofs.tray.Tray.drop.Goals as goal
 
-pub invariant-of-self-2 : goal.invariant-of-self-2
-invariant-of-self-2 c =
+pub invariant_of-self-2 : goal.invariant_of-self-2
+invariant_of-self-2 c =
     let t = c.args.self.now in
     let k = t.control in
     keeps_moved t (k.count - 1) k.sizes t.tables.now t.spare.now (omega (arith, t.holds)) refl refl refl

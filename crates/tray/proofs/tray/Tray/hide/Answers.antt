@@ -13,17 +13,17 @@ use Rattle.tray.proofs.Landings.{too_many_met}
 use Rattle.tray.proofs.Recovering.{table_in, by_sets_in}
 use Rattle.tray.proofs.tray.Tray.hide.Goals as goal
 
-pub hide-table-hidden-requires : goal.hide-table-hidden-requires
-hide-table-hidden-requires c =
+pub hide_table-hidden-requires : goal.hide_table-hidden-requires
+hide_table-hidden-requires c =
     let t = c.args.self.now in
     let k = t.control in
     let n : ℕ = k.sets in
     let top : ℕ = k.count - 1 in
     let tables : List ℕ = t.tables.now in
-    let pass = c.in-default.ensures in
+    let pass = c.in_default.ensures in
     let some : 1 ≤ k.count = not_below k.count 1 pass.1.1.0 in
     let stands = t.live top (omega arith) in
-    let is = c.slot-length.ensures.is in
+    let is = c.slot_length.ensures.is in
     record {
       sets = t.few_sets;
       budget = (has_budget n k.budget k.depth t.opened t.unopened (omega (arith, t.holds)), t.few_states);
@@ -36,19 +36,19 @@ hide-table-hidden-requires c =
       by_sets = subst (λ s. BySets n (answers n (size_of k top) (drop (top * s) tables))) (sym is) (by_sets_in k tables top stands);
     }
 
-pub invariant-of-self-in-Ok : goal.invariant-of-self-in-Ok
-invariant-of-self-in-Ok c =
+pub invariant_of-self-in-Ok : goal.invariant_of-self-in-Ok
+invariant_of-self-in-Ok c =
     let t = c.args.self.now in
     let k = t.control in
     let i : ℕ = c.args.set in
     let L : List ℕ → Bool = says k t.tables.now (k.count - 1) in
-    let some : 1 ≤ k.count = not_below k.count 1 c.in-default.ensures.1.1.0 in
-    let is = c.slot-length.ensures.is in
-    built_keeps t (k.count - 1) c.slot-length.result (SameCollection k.sets i L) (Hides k.sets i L)
-    c.hide-table-hidden.new.tables c.hide-table-hidden.new.spare c.in-Ok.counts.met c.in-Ok.counts.kept
+    let some : 1 ≤ k.count = not_below k.count 1 c.in_default.ensures.1.1.0 in
+    let is = c.slot_length.ensures.is in
+    built_keeps t (k.count - 1) c.slot_length.result (SameCollection k.sets i L) (Hides k.sets i L)
+    c.hide_table-hidden.new.tables c.hide_table-hidden.new.spare c.in-Ok.counts.met c.in-Ok.counts.kept
     is (omega (arith, t.holds)) (omega arith)
-    (hidden_said k i t.tables.now c.hide-table-hidden.new.tables c.slot-length.result (Ok c.in-Ok.counts) is c.in-Ok.ensures)
-    (hides_move k.sets i L) c.hide-table-hidden.auto.tables c.hide-table-hidden.auto.spare
+    (hidden_said k i t.tables.now c.hide_table-hidden.new.tables c.slot_length.result (Ok c.in-Ok.counts) is c.in-Ok.ensures)
+    (hides_move k.sets i L) c.hide_table-hidden.auto.tables c.hide_table-hidden.auto.spare
 
 pub returns-in-Ok : goal.returns-in-Ok
 returns-in-Ok c =
@@ -56,16 +56,16 @@ returns-in-Ok c =
     let k = t.control in
     let i : ℕ = c.args.set in
     let L : List ℕ → Bool = says k t.tables.now (k.count - 1) in
-    let pass = c.in-default.ensures in
+    let pass = c.in_default.ensures in
     let some : 1 ≤ k.count = not_below k.count 1 pass.1.1.0 in
-    let is = c.slot-length.ensures.is in
-    let landed = hidden_said k i t.tables.now c.hide-table-hidden.new.tables c.slot-length.result (Ok c.in-Ok.counts) is c.in-Ok.ensures in
+    let is = c.slot_length.ensures.is in
+    let landed = hidden_said k i t.tables.now c.hide_table-hidden.new.tables c.slot_length.result (Ok c.in-Ok.counts) is c.in-Ok.ensures in
     record {
       hides = (
         passes (hide_checks k.sets k.budget k.count (length c.args.records.now) (length c.args.links.now) i) k.sets (SameCollection k.sets i L) k.budget
             c.in-Ok.counts.met (collection_equality k.sets i L) pass landed.met_few landed.met_count,
-        tray_built t (k.count - 1) c.slot-length.result (SameCollection k.sets i L) (Hides k.sets i L)
-            c.hide-table-hidden.new.tables c.hide-table-hidden.new.spare c.in-Ok.counts.met c.in-Ok.counts.kept
+        tray_built t (k.count - 1) c.slot_length.result (SameCollection k.sets i L) (Hides k.sets i L)
+            c.hide_table-hidden.new.tables c.hide_table-hidden.new.spare c.in-Ok.counts.met c.in-Ok.counts.kept
             is (omega (arith, t.holds)) (omega arith) landed (hides_move k.sets i L),
       );
       owners = (refl, refl);
@@ -92,13 +92,13 @@ returns-in-Err-hidden c =
     let k = t.control in
     let i : ℕ = c.args.set in
     let L : List ℕ → Bool = says k t.tables.now (k.count - 1) in
-    let refused = too_many_met k.sets k.budget ((k.count - 1) * c.slot-length.result) (SameCollection k.sets i L) (Hides k.sets i L)
-    t.tables.now c.hide-table-hidden.new.tables c.in-Err-hidden.field-0
-    (hidden_said k i t.tables.now c.hide-table-hidden.new.tables c.slot-length.result (Err c.in-Err-hidden.field-0) c.slot-length.ensures.is c.in-Err-hidden.ensures) in
+    let refused = too_many_met k.sets k.budget ((k.count - 1) * c.slot_length.result) (SameCollection k.sets i L) (Hides k.sets i L)
+    t.tables.now c.hide_table-hidden.new.tables c.in-Err-hidden.field-0
+    (hidden_said k i t.tables.now c.hide_table-hidden.new.tables c.slot_length.result (Err c.in-Err-hidden.field-0) c.slot_length.ensures.is c.in-Err-hidden.ensures) in
     record {
       hides = (
         exceeds (hide_checks k.sets k.budget k.count (length c.args.records.now) (length c.args.links.now) i) k.sets (SameCollection k.sets i L) k.budget
-            c.in-default.ensures refused.0,
+            c.in_default.ensures refused.0,
         refl,
         refused.1,
       );

@@ -10,10 +10,10 @@ use Rattle.tray.proofs.Landings.{too_many_met}
 use Rattle.tray.proofs.Checking.{passes, exceeds, fails_early, must_equal, not_above, neither_below, has_budget, within_slots}
 use Rattle.tray.proofs.tray.Tray.place.Goals as goal
 
-pub place-table-placed-requires : goal.place-table-placed-requires
-place-table-placed-requires g c =
+pub place_table-placed-requires : goal.place_table-placed-requires
+place_table-placed-requires g c =
     let t = c.args.self.now in
-    let pass = c.in-default.ensures in
+    let pass = c.in_default.ensures in
     let room = not_above t.control.depth t.control.count pass.1.1.1.1.0 in
     record {
       sets = t.few_sets;
@@ -22,23 +22,23 @@ place-table-placed-requires g c =
       places = must_equal (length c.args.listed.now) (g.B.Book.automaton c.args.book.now c.args.predicate).places pass.1.1.0;
       lent = neither_below (length c.args.records.now) t.control.budget (length c.args.links.now) (8 * t.control.budget) pass.0;
       work = t.work;
-      slot = subst (λ s. t.control.count * s + slot t.control ≤ length t.tables.now) (sym c.slot-length.ensures.is)
+      slot = subst (λ s. t.control.count * s + slot t.control ≤ length t.tables.now) (sym c.slot_length.ensures.is)
           (within_slots t.control.depth t.control.count (slot t.control) (length t.tables.now) room t.slots);
     }
 
-pub invariant-of-self-in-Ok : goal.invariant-of-self-in-Ok
-invariant-of-self-in-Ok g c =
+pub invariant_of-self-in-Ok : goal.invariant_of-self-in-Ok
+invariant_of-self-in-Ok g c =
     let t = c.args.self.now in
     let a = g.B.Book.automaton c.args.book.now c.args.predicate in
     let holds = g.B.Book.holds c.args.book.now c.args.predicate in
     let listed : List ℕ = c.args.listed.now in
-    let pass = c.in-default.ensures in
+    let pass = c.in_default.ensures in
     let room = not_above t.control.depth t.control.count pass.1.1.1.1.0 in
-    built_keeps t t.control.count c.slot-length.result (SameBookState a listed) (λ w. holds (map (λ i. coded i w) listed))
-    c.place-table-placed.new.tables c.place-table-placed.new.spare c.in-Ok.counts.met c.in-Ok.counts.kept
-    c.slot-length.ensures.is room (omega arith) c.in-Ok.ensures
+    built_keeps t t.control.count c.slot_length.result (SameBookState a listed) (λ w. holds (map (λ i. coded i w) listed))
+    c.place_table-placed.new.tables c.place_table-placed.new.spare c.in-Ok.counts.met c.in-Ok.counts.kept
+    c.slot_length.ensures.is room (omega arith) c.in-Ok.ensures
     (listed_moves t.control.sets holds listed (all_there t.control.sets listed pass.1.1.1.0))
-    c.place-table-placed.auto.tables c.place-table-placed.auto.spare
+    c.place_table-placed.auto.tables c.place_table-placed.auto.spare
 
 pub returns-in-Ok : goal.returns-in-Ok
 returns-in-Ok g c =
@@ -46,16 +46,16 @@ returns-in-Ok g c =
     let a = g.B.Book.automaton c.args.book.now c.args.predicate in
     let holds = g.B.Book.holds c.args.book.now c.args.predicate in
     let listed : List ℕ = c.args.listed.now in
-    let pass = c.in-default.ensures in
+    let pass = c.in_default.ensures in
     let room = not_above t.control.depth t.control.count pass.1.1.1.1.0 in
     record {
       places = (
         passes (place_checks t.control.sets t.control.budget t.control.depth t.control.count (length c.args.records.now) (length c.args.links.now)
             (g.B.Book.size c.args.book.now) a.places c.args.predicate listed) t.control.sets (SameBookState a listed) t.control.budget c.in-Ok.counts.met
             (book_equality a listed) pass c.in-Ok.ensures.met_few c.in-Ok.ensures.met_count,
-        tray_built t t.control.count c.slot-length.result (SameBookState a listed) (λ w. holds (map (λ i. coded i w) listed))
-            c.place-table-placed.new.tables c.place-table-placed.new.spare c.in-Ok.counts.met c.in-Ok.counts.kept
-            c.slot-length.ensures.is room (omega arith) c.in-Ok.ensures
+        tray_built t t.control.count c.slot_length.result (SameBookState a listed) (λ w. holds (map (λ i. coded i w) listed))
+            c.place_table-placed.new.tables c.place_table-placed.new.spare c.in-Ok.counts.met c.in-Ok.counts.kept
+            c.slot_length.ensures.is room (omega arith) c.in-Ok.ensures
             (listed_moves t.control.sets holds listed (all_there t.control.sets listed pass.1.1.1.0)),
       );
       owners = (refl, refl);
@@ -84,14 +84,14 @@ returns-in-Err-placed g c =
     let a = g.B.Book.automaton c.args.book.now c.args.predicate in
     let holds = g.B.Book.holds c.args.book.now c.args.predicate in
     let listed : List ℕ = c.args.listed.now in
-    let refused = too_many_met t.control.sets t.control.budget (t.control.count * c.slot-length.result) (SameBookState a listed) (λ w. holds (map (λ i. coded i w) listed))
-    t.tables.now c.place-table-placed.new.tables c.in-Err-placed.field-0 c.in-Err-placed.ensures in
+    let refused = too_many_met t.control.sets t.control.budget (t.control.count * c.slot_length.result) (SameBookState a listed) (λ w. holds (map (λ i. coded i w) listed))
+    t.tables.now c.place_table-placed.new.tables c.in-Err-placed.field-0 c.in-Err-placed.ensures in
     record {
       places = (
         exceeds
             (place_checks t.control.sets t.control.budget t.control.depth t.control.count (length c.args.records.now) (length c.args.links.now)
             (g.B.Book.size c.args.book.now) a.places c.args.predicate listed)
-            t.control.sets (SameBookState a listed) t.control.budget c.in-default.ensures refused.0,
+            t.control.sets (SameBookState a listed) t.control.budget c.in_default.ensures refused.0,
         refl,
         refused.1,
       );
