@@ -1,5 +1,5 @@
 -- One column more of a chart, in memory.
-use Rattle.std.proofs.Common.{◌≡◌, ℕ, suc, ◌+◌, ◌*◌, ◌%◌, ◌^◌, ◌<◌, ◌≤◌, Bool, true, false, cond, ◌⊎◌, List, length, get_or, drop, set, Some, None, sym, refl, ap, ◌∙◌, subst, inl, inr, lt_of_lt_of_le, mod-eq_of_lt, arith, pow_mono}
+use Rattle.std.proofs.Common.{◌≡◌, ℕ, ◌+◌, ◌*◌, ◌%◌, ◌^◌, ◌<◌, ◌≤◌, Bool, true, false, cond, List, length, drop, set, Some, sym, refl, ap, ◌∙◌, subst, inl, inr, lt_of_lt_of_le, mod-eq_of_lt, arith, pow_mono}
 use mir.Val.{bool_byte}
 use Rattle.std.proofs.lemmas.List.{get_or-set_same, get_or-set_other, length-set}
 use Rattle.words.specs.Automata.{Moves, SameReach}
@@ -8,7 +8,7 @@ use Rattle.words.specs.Order.{nth_column, column_place}
 use Rattle.words.specs.Rows.{width, next_of, mark_of}
 use Rattle.words.specs.Links.{parent_of, column_of}
 use Rattle.words.proofs.Orders.{nth_below, place_nth}
-use Rattle.words.proofs.Charting.{Charted, Done, chart_same, chart_old, chart_new, chart_row, chart_more}
+use Rattle.words.proofs.Charting.{Done, chart_same, chart_old, chart_new, chart_row, chart_more}
 use Rattle.words.proofs.Cells.{write_here, write_there, write_past, cell_below}
 use Rattle.tables.specs.Chart.{Chart, Unmet, Meets, Extends}
 use Rattle.tables.specs.Explored.{record_of, Past}

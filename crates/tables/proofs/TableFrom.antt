@@ -1,11 +1,11 @@
 -- What was explored and merged is the table of the language of the explored kind.
-use Rattle.std.proofs.Common.{◌≡◌, ℕ, zero, suc, ◌+◌, ◌*◌, ◌^◌, ◌<◌, ◌≤◌, cond, ◌⊎◌, List, [], ◌∷◌, ◌++◌, sym, refl, ap, ◌∙◌, subst, inl, inr, ⊎_elim, arith}
+use Rattle.std.proofs.Common.{◌≡◌, ℕ, zero, suc, ◌^◌, ◌<◌, ◌≤◌, cond, ◌⊎◌, List, [], ◌∷◌, ◌++◌, sym, refl, ap, ◌∙◌, subst, inl, inr, arith}
 use Rattle.std.proofs.lemmas.Bool.{cases_lt}
 use Rattle.words.specs.Words.{Columns}
 use Rattle.words.specs.Order.{NotLater, Precedes}
 use Rattle.words.specs.Automata.{Moves, run, reach, language}
-use Rattle.words.specs.Rows.{width, written, next_of, mark_of}
-use Rattle.words.specs.Residuals.{SameResidual, SameFrom}
+use Rattle.words.specs.Rows.{written, next_of}
+use Rattle.words.specs.Residuals.{SameResidual}
 use Rattle.words.specs.TableOf.{TableOf}
 use Rattle.words.proofs.Orders.{chain}
 use Rattle.words.proofs.Answering.{step_inside, accepts_inside}

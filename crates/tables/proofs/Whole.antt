@@ -1,12 +1,11 @@
 -- A chart whose rows are all whole is an exploration.
-use Rattle.std.proofs.Common.{◌≡◌, ℕ, suc, ◌+◌, ◌^◌, ◌<◌, ◌≤◌, List, [], ◌∷◌, sym, refl, ap, ◌∙◌, subst, inl, arith}
+use Rattle.std.proofs.Common.{◌≡◌, ℕ, ◌^◌, ◌<◌, List, sym, refl, ap, ◌∙◌, subst, inl}
 use Rattle.words.specs.Words.{Columns}
-use Rattle.words.specs.Order.{NotLater, Precedes}
+use Rattle.words.specs.Order.{NotLater}
 use Rattle.words.specs.Automata.{Moves, run, reach, SameReach}
-use Rattle.words.specs.Rows.{next_of, mark_of}
-use Rattle.words.specs.Links.{parent_of, column_of, trail}
+use Rattle.words.specs.Rows.{next_of}
+use Rattle.words.specs.Links.{parent_of, column_of}
 use Rattle.words.specs.Residuals.{Count, Equality}
-use Rattle.words.proofs.Charting.{Charted}
 use Rattle.words.proofs.Runs.{side}
 use Rattle.words.proofs.Numbering.{trail_columns, trail_leads, trails_ordered, trail_earliest}
 use Rattle.tables.specs.Chart.{Chart}

@@ -1,7 +1,6 @@
 -- Rows of merged states, cell by cell and row by row.
-use Rattle.std.proofs.Common.{◌≡◌, ℕ, suc, ◌+◌, ◌*◌, ◌^◌, ◌<◌, ◌≤◌, Bool, true, false, cond, List, length, get_or, set, sym, refl, ap, ◌∙◌, subst, ⊎_elim, add-mul, one-mul, arith, below_more}
+use Rattle.std.proofs.Common.{◌≡◌, ℕ, ◌+◌, ◌*◌, ◌^◌, ◌<◌, ◌≤◌, cond, List, length, get_or, set, refl, ap, ◌∙◌, add-mul, one-mul, arith, below_more}
 use Rattle.std.proofs.lemmas.List.{get_or-set_same, get_or-set_other}
-use Rattle.std.proofs.lemmas.Bool.{cases_lt}
 use Rattle.words.specs.Automata.{Automaton}
 use Rattle.words.specs.Rows.{width}
 use Rattle.words.proofs.Cells.{cell_below}

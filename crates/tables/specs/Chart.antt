@@ -1,6 +1,6 @@
 -- What an exploration has in its memory while it is under way: contracts of the functions within it. A reader of the
 -- statement can pass over this file.
-use Rattle.std.specs.Prelude.{◌≡◌, ℕ, suc, ◌+◌, ◌*◌, ◌<◌, ◌≤◌, ◌⊎◌, List, Some, None, Option, ◌≢◌, slice_set}
+use Rattle.std.specs.Prelude.{◌≡◌, ℕ, ◌+◌, ◌*◌, ◌<◌, ◌≤◌, ◌⊎◌, List, Some, None, Option, ◌≢◌, slice_set}
 use Rattle.words.specs.Automata.{Moves, SameReach}
 use Rattle.words.specs.Residuals.{MoreThan}
 use Rattle.words.specs.Rows.{next_of, mark_of}

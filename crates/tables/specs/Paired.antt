@@ -1,8 +1,7 @@
 -- Two tables side by side, as a kind of state.
 use Rattle.std.specs.Prelude.{ℕ, Bool, ◌&&◌, ◌||◌}
-use Rattle.words.specs.Automata.{Automaton, Moves, side_by_side}
+use Rattle.words.specs.Automata.{Moves, side_by_side}
 use Rattle.words.specs.Rows.{written}
-use Rattle.words.specs.declared.rows.Rows.{Rows}
 use Rattle.tables.specs.declared.pairs.Pairs.{Pairs}
 use Rattle.tables.specs.declared.pairs.Join.{Join}
 use Rattle.tables.specs.declared.pairs.Join.TheVariants.{Both, Either}

@@ -1,5 +1,5 @@
 -- The memory that an exploration needs.
-use Rattle.std.specs.Prelude.{ℕ, ◌+◌, ◌*◌, ◌≤◌}
+use Rattle.std.specs.Prelude.{ℕ, ◌*◌, ◌≤◌}
 use Rattle.words.specs.Rows.{width}
 
 -- over n sets, for at most `budget` states: so many records, links and table numbers

@@ -1,8 +1,7 @@
-use Rattle.std.proofs.Common.{◌≡◌, ◌+◌, ◌≤◌, sym, ◌∙◌, subst, arith}
+use Rattle.std.proofs.Common.{◌≡◌, subst, arith}
 use Rattle.tables.specs.Chart.{Chart}
 use Rattle.tables.specs.Explored.{Explored}
 use Rattle.tables.proofs.Whole.{whole, explored_count}
-use Rattle.tables.proofs.exploration.explore.Given as given
 use Rattle.tables.proofs.exploration.explore.Goals as goal
 
 pub overflow_add-at : goal.overflow_add-at

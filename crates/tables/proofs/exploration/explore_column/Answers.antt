@@ -8,7 +8,7 @@ pub returns-in_err-step : goal.returns-in_err-step
 returns-in_err-step g c = record {
   chart = subst (Extends (g.K.Kind.moves c.args.kind.now) c.args.sets c.args.budget c.args.at (c.args.k + 1) c.args.met
       c.follow.new.records c.follow.new.links c.args.rows.now)
-      (sym c.from-residual.ensures)
+      (sym c.from_residual.ensures)
       (column_over (g.K.Kind.moves c.args.kind.now) c.args.sets c.args.budget c.args.at c.args.k c.args.met
       c.args.records.now c.args.links.now c.args.rows.now c.requires.room c.requires.chart c.requires.here c.requires.few c.requires.left
       c.nth_column-column.result c.nth_column-column.ensures c.in_err-step.ensures);

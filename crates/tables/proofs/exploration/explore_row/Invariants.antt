@@ -1,4 +1,4 @@
-use Rattle.std.proofs.Common.{◌≡◌, ◌*◌, ◌≤◌, length, drop}
+use Rattle.std.proofs.Common.{◌≡◌, ◌*◌, ◌≤◌, drop}
 use Rattle.words.specs.Rows.{width}
 use Rattle.tables.specs.Chart.{Chart}
 use Rattle.tables.proofs.exploration.explore_row.Given as goal

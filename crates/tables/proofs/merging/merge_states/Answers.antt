@@ -1,4 +1,4 @@
-use Rattle.std.proofs.Common.{◌+◌, ◌*◌, ◌≤◌, length, mul-le-mul_right, arith}
+use Rattle.std.proofs.Common.{mul-le-mul_right, arith}
 use Rattle.words.specs.Rows.{width}
 use Rattle.tables.proofs.Merges.{merged}
 use Rattle.tables.proofs.merging.merge_states.Goals as goal

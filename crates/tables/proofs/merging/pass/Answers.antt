@@ -1,5 +1,5 @@
-use Rattle.std.proofs.Common.{◌<◌, true, false, sym, refl, subst}
-use Rattle.tables.specs.Classing.{described, class_of, Splits, Passes}
+use Rattle.std.proofs.Common.{◌<◌, sym, refl, subst}
+use Rattle.tables.specs.Classing.{Passes}
 use Rattle.tables.proofs.Lows.{pass_none, pass_found}
 use Rattle.tables.proofs.merging.pass.Goals as goal
 

@@ -1,4 +1,3 @@
-use Rattle.std.proofs.Common.{true}
 use Rattle.std.proofs.lemmas.Bool.{true≢false}
 use Rattle.words.proofs.Merging.{first_classes}
 use Rattle.tables.specs.Classing.{described, class_of}

@@ -1,4 +1,4 @@
-use Rattle.std.proofs.Common.{◌≡◌, ℕ, ◌+◌, ◌^◌, ◌<◌, true, false, cond}
+use Rattle.std.proofs.Common.{◌≡◌, ℕ, ◌+◌, ◌^◌, ◌<◌, false, cond}
 use Rattle.tables.specs.Classing.{Classed, Settled, left}
 use Rattle.tables.proofs.merging.refine.Given as goal
 

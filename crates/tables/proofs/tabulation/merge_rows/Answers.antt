@@ -6,8 +6,8 @@ pub merge_states-requires : goal.merge_states-requires
 merge_states-requires c = record {
   closed = c.requires.closed;
   room = (
-    omega (arith, c.requires.few.0, c.split_at_mut-class.ensures.front-len),
-    omega (arith, c.requires.few.0, c.split_at_mut-fresh.ensures.front-len),
+    omega (arith, c.requires.few.0, c.split_at_mut-class.ensures.front_len),
+    omega (arith, c.requires.few.0, c.split_at_mut-fresh.ensures.front_len),
     omega (arith, c.requires.few.0, c.requires.links, c.split_at_mut-parents.ensures.back_len, c.split_at_mut-class.ensures.back_len, c.split_at_mut-fresh.ensures.back_len),
   );
   slot = omega (arith, c.requires.slot, mul-le-mul_right (width c.args.sets) c.requires.few.0);

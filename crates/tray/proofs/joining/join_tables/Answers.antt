@@ -77,6 +77,6 @@ returns-in-Err c =
     c.in-Err.why c.in-Err.ensures.found
     (work_room n budget (length c.args.records.now) (length c.args.links.now) (length c.split_at_mut-raw.result.0.now) (length c.split_at_mut-raw.result.1.now)
     (length c.args.spare.now) c.slot_length-slot.result c.requires.sets c.requires.budget.0 c.requires.budget.1 c.requires.lent.0 c.requires.lent.1
-    c.slot_length-slot.ensures.is c.requires.work c.split_at_mut-raw.ensures.front-len (omega (arith, c.split_at_mut-raw.ensures.back_len)))
+    c.slot_length-slot.ensures.is c.requires.work c.split_at_mut-raw.ensures.front_len (omega (arith, c.split_at_mut-raw.ensures.back_len)))
     (same_pairs n (answers n low lower) (answers n up upper) lower low (held_at n low base tables lower c.rows_from-lower_rows.ensures c.requires.lower) upper up
     (held_at n up (base + budget * width n) tables upper above c.requires.upper) (joined c.args.join)) refl))

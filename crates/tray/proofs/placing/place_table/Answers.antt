@@ -45,5 +45,5 @@ returns-in-Err g c =
     c.in-Err.why c.in-Err.ensures.found
     (work_room n c.args.budget (length c.args.records.now) (length c.args.links.now) (length c.split_at_mut-raw.result.0.now) (length c.split_at_mut-raw.result.1.now)
     (length c.args.spare.now) c.slot_length.result c.requires.sets c.requires.budget.0 c.requires.budget.1 c.requires.lent.0 c.requires.lent.1
-    c.slot_length.ensures.is c.requires.work c.split_at_mut-raw.ensures.front-len (omega (arith, c.split_at_mut-raw.ensures.back_len)))
+    c.slot_length.ensures.is c.requires.work c.split_at_mut-raw.ensures.front_len (omega (arith, c.split_at_mut-raw.ensures.back_len)))
     (λ u w _ _. same_asked a listed u w) refl
