@@ -1,5 +1,5 @@
 -- Sets of states below 512: state q is bit q % 64 of word q / 64.
-use Rattle.std.specs.Prelude.{◌≡◌, ℕ, zero, suc, ◌+◌, ◌/◌, ◌%◌, ◌^◌, ◌<◌, Bool, false, cond, ◌&&◌, ◌||◌, length, set, replicate, ◌==◌, bit_or, nat_lt, slice_index, slice_set}
+use Rattle.std.specs.Prelude.{◌≡◌, ℕ, zero, suc, ◌+◌, ◌/◌, ◌%◌, ◌^◌, ◌<◌, Bool, false, cond, ◌&&◌, ◌||◌, length, replicate, ◌==◌, bit_or, nat_lt, slice_index, slice_set}
 use Rattle.words.specs.Sets.{bit, Member}
 use Rattle.hiding.specs.declared.state_set.StateSet.{StateSet}
 
