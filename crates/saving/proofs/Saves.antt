@@ -1,6 +1,6 @@
 -- A text that was laid at the front of a buffer with enough room.
-use Rattle.std.proofs.Common.{◌≡◌, ℕ, ◌+◌, ◌≤◌, List, length, take, drop, sym, ap, ◌∙◌, arith}
-use Rattle.saving.specs.Laying.{laid, Lays}
+use Rattle.std.proofs.Common.{◌≡◌, ℕ, ◌+◌, ◌≤◌, List, length, take, drop, ap, ◌∙◌, arith}
+use Rattle.saving.specs.Laying.{Lays}
 use Rattle.saving.proofs.Layings.{length_laid, take_laid, drop_laid}
 
 module _ (text : List ℕ) (buffer buffer' : List ℕ) (k : ℕ) (lays : Lays text 0 buffer buffer' k) where

@@ -52,9 +52,10 @@ mod tests {
         assert_eq!(rt; save_rows(&rows, &mut buffer), Ok(112));
         let (names, row) = buffer.split_at(68);
         assert!(rt;
-            names == b"state accepts n0 n1 n2 n3 n4 n5 n6 n7 n8 n9 n10 n11 n12 n13 n14 n15\n"
+            names
+                == b"state accepts n0 n1 n2 n3 n4 n5 n6 n7 n8 n9 n10 n11 n12 n13 n14 n15\n".as_slice()
         );
-        assert!(rt; row == b"0 0 9 10 99 100 65535 0 0 0 0 0 0 0 0 0 0 0\n");
+        assert!(rt; row == b"0 0 9 10 99 100 65535 0 0 0 0 0 0 0 0 0 0 0\n".as_slice());
     }
 
     // One byte too few, or one set too many: nothing is written.

@@ -1,5 +1,5 @@
 -- From a table in its slot to what a building call owes: the tables below stand as they stood, and the new one stands above.
-use Rattle.std.proofs.Common.{◌≡◌, ℕ, suc, ◌+◌, ◌*◌, ◌<◌, ◌≤◌, Bool, ◌⊎◌, List, length, get_or, drop, set, Decides, sym, refl, ap, ◌∙◌, subst, ap₂, inl, inr, ⊎_elim, mul-le-mul_right, arith}
+use Rattle.std.proofs.Common.{◌≡◌, ℕ, suc, ◌+◌, ◌*◌, ◌<◌, ◌≤◌, Bool, ◌⊎◌, List, length, get_or, set, Decides, sym, refl, ap, ◌∙◌, subst, inl, inr, mul-le-mul_right, arith}
 use native.Mathlib.Bridge.{le_prop}
 use mathlib.Core.Logic.{∥∥₁_elim, ∥∥₁_map}
 use Rattle.std.proofs.lemmas.List.{get_or-drop, get_or-set_same, get_or-set_other, length-set}
@@ -13,11 +13,10 @@ use Rattle.words.proofs.Answering.{table_of_same}
 use Rattle.words.proofs.Cells.{cell_below}
 use Rattle.words.proofs.Copies.{copied_answers, copied_table}
 use Rattle.words.proofs.TableLaws.{table_counts}
-use Rattle.tables.specs.Tabulated.{Elsewhere}
 use Rattle.tray.specs.declared.control.Control.{Control}
 use Rattle.tray.specs.declared.tray.Tray.{Tray}
 use Rattle.tray.specs.View.{slot, size_of, rows_of, says, Stands}
-use Rattle.tray.specs.Building.{SameSettings, SameTables, Built}
+use Rattle.tray.specs.Building.{Built}
 use Rattle.tray.specs.Landing.{Lands}
 
 -- the control record with other tables
@@ -133,47 +132,49 @@ module _ (c : Control) (tables tables' : List ℕ) (below : ℕ) (Same : List �
 -- ---- what a tray keeps true, as its fields say it
 
 abbrev pub Keeps : Control → List ℕ → List ℕ → Type 0
-Keeps c tables spare =
-    (c.sets ≤ 8) × ((c.budget ≤ 512) × ((c.depth ≤ 16) × ((1 ≤ c.sets → (1 ≤ c.budget) × (1 ≤ c.depth))
-    × ((c.sets ≡ 0 → (c.budget ≡ 0) × (c.depth ≡ 0)) × ((c.count ≤ c.depth) × ((length c.sizes ≡ 16)
-    × ((c.depth * slot c ≤ length tables) × ((2 * slot c ≤ length spare)
-    × (((k : ℕ) → k < c.count → ∥ Stands c tables k ∥₁) × Unit {0})))))))))
+Keeps c tables spare = record {
+  few_sets : c.sets ≤ 8;
+  few_states : c.budget ≤ 512;
+  few_tables : c.depth ≤ 16;
+  opened : 1 ≤ c.sets → (1 ≤ c.budget) × (1 ≤ c.depth);
+  unopened : c.sets ≡ 0 → (c.budget ≡ 0) × (c.depth ≡ 0);
+  holds : c.count ≤ c.depth;
+  sixteen : length c.sizes ≡ 16;
+  slots : c.depth * slot c ≤ length tables;
+  work : 2 * slot c ≤ length spare;
+  live : (k : ℕ) → k < c.count → ∥ Stands c tables k ∥₁;
+}
 
 pub keeps : (t : Tray) → Keeps t.control t.tables.now t.spare.now
-keeps t = (
-  t.few_sets,
-  (t.few_states, (t.few_tables, (t.opened, (t.unopened, (t.holds, (t.sixteen, (t.slots, (t.work, (t.live, tt))))))))),
-)
+keeps t = record {
+  few_sets = t.few_sets;
+  few_states = t.few_states;
+  few_tables = t.few_tables;
+  opened = t.opened;
+  unopened = t.unopened;
+  holds = t.holds;
+  sixteen = t.sixteen;
+  slots = t.slots;
+  work = t.work;
+  live = t.live;
+}
 
 -- a tray with other tables in the same slots
 pub keeps_moved : (t : Tray) (count : ℕ) (sizes tables spare : List ℕ) → count ≤ t.control.depth → length sizes ≡ length t.control.sizes
     → length tables ≡ length t.tables.now → length spare ≡ length t.spare.now
     → ((k : ℕ) → k < count → ∥ Stands (moved t.control count sizes) tables k ∥₁) → Keeps (moved t.control count sizes) tables spare
-keeps_moved t count sizes tables spare few sixteen long work live = (
-  t.few_sets,
-  (
-    t.few_states,
-    (
-      t.few_tables,
-      (
-        t.opened,
-        (
-          t.unopened,
-          (
-            few,
-            (
-              sixteen ∙ t.sixteen,
-              (
-                subst (λ l. t.control.depth * slot t.control ≤ l) (sym long) t.slots,
-                (subst (λ l. 2 * slot t.control ≤ l) (sym work) t.work, (live, tt)),
-              ),
-            ),
-          ),
-        ),
-      ),
-    ),
-  ),
-)
+keeps_moved t count sizes tables spare few sixteen long work live = record {
+  few_sets = t.few_sets;
+  few_states = t.few_states;
+  few_tables = t.few_tables;
+  opened = t.opened;
+  unopened = t.unopened;
+  holds = few;
+  sixteen = sixteen ∙ t.sixteen;
+  slots = subst (λ l. t.control.depth * slot t.control ≤ l) (sym long) t.slots;
+  work = subst (λ l. 2 * slot t.control ≤ l) (sym work) t.work;
+  live = live;
+}
 
 -- ---- a building call whose new table lies in its slot owes nothing more
 

@@ -1,5 +1,5 @@
 -- The top table of a tray with a set hidden.
-use Rattle.std.proofs.Common.{◌≡◌, ℕ, ◌-◌, ◌*◌, ◌<◌, ◌≤◌, Bool, List, length, drop, Err, Result, sym, refl, ap, ◌∙◌, subst}
+use Rattle.std.proofs.Common.{◌≡◌, ℕ, ◌-◌, ◌*◌, ◌<◌, Bool, List, length, drop, Err, Result, refl, ◌∙◌, subst}
 use Rattle.words.specs.Words.{Columns, coded}
 use Rattle.words.specs.Hiding.{Hides, SameCollection}
 use Rattle.words.specs.Residuals.{BySets}
@@ -11,7 +11,7 @@ use Rattle.hiding.specs.HiddenTable.{Ready, TabulatesHidden}
 use Rattle.hiding.specs.declared.state_set.StateSet.{StateSet}
 use Rattle.tray.specs.declared.control.Control.{Control}
 use Rattle.tray.specs.Landing.{Landed}
-use Rattle.tray.specs.View.{slot, size_of, rows_of, says}
+use Rattle.tray.specs.View.{slot, size_of, says}
 
 -- too many collections were met; there was room
 module _ (n i : ℕ) (cells : List ℕ) (size budget base : ℕ) (L : List ℕ → Bool) (tables : List ℕ) (records : List StateSet) (links spare fresh : List ℕ)

@@ -1,11 +1,11 @@
 -- A table that was explored and merged in the work space, and copied to its slot, lies there.
-use Rattle.std.proofs.Common.{◌≡◌, ℕ, ◌+◌, ◌-◌, ◌*◌, ◌<◌, ◌≤◌, Bool, List, length, get_or, drop, Err, Decides, sym, refl, ap, ◌∙◌, subst, mul-le-mul_right, arith}
+use Rattle.std.proofs.Common.{◌≡◌, ℕ, ◌+◌, ◌-◌, ◌*◌, ◌<◌, ◌≤◌, Bool, List, length, get_or, drop, Err, Decides, sym, ◌∙◌, subst, mul-le-mul_right, arith}
 use Rattle.std.proofs.lemmas.List.{get_or-drop}
 use Rattle.words.specs.Words.{Columns}
 use Rattle.words.specs.Automata.{Moves, SameReach}
 use Rattle.words.specs.Rows.{width}
 use Rattle.words.specs.Residuals.{Count, MoreThan}
-use Rattle.words.specs.TableOf.{TableOf, answers}
+use Rattle.words.specs.TableOf.{TableOf}
 use Rattle.words.proofs.Answering.{table_answers, table_of_answers}
 use Rattle.words.proofs.Copies.{copied_table}
 use Rattle.words.proofs.Pairing.{more_same}

@@ -1,10 +1,10 @@
 -- The top table with its marks turned over, in its slot.
-use Rattle.std.proofs.Common.{◌≡◌, ℕ, ◌+◌, ◌-◌, ◌*◌, ◌<◌, ◌≤◌, Bool, true, not, List, length, get_or, drop, set, Decides, sym, refl, ap, ◌∙◌, subst, ap₂, arith}
+use Rattle.std.proofs.Common.{◌≡◌, ℕ, ◌+◌, ◌-◌, ◌*◌, ◌<◌, ◌≤◌, Bool, true, not, List, set, Decides, sym, ap, ◌∙◌, subst, ap₂, arith}
 use Rattle.std.proofs.lemmas.List.{set-get_or}
 use Rattle.std.proofs.lemmas.Bool.Decides.{Decides-not}
 use Rattle.words.specs.Words.{Columns, coded}
 use Rattle.words.specs.Residuals.{BySets, SameResidual}
-use Rattle.words.specs.TableOf.{TableOf, answers}
+use Rattle.words.specs.TableOf.{TableOf}
 use Rattle.words.proofs.Answering.{table_answers, table_of_answers}
 use Rattle.words.proofs.Negations.{negated_table}
 use Rattle.words.proofs.TableLaws.{table_counts}

@@ -1,5 +1,5 @@
 -- What stands in a tray's slot, out of its ghost field.
-use Rattle.std.proofs.Common.{◌≡◌, ℕ, ◌<◌, ◌≤◌, List, get_or}
+use Rattle.std.proofs.Common.{ℕ, List}
 use mathlib.Core.Bool.{Bool-set}
 use mathlib.Core.Logic.{∥∥₁_elim, ∥∥₁_map}
 use Rattle.words.specs.Residuals.{BySets}

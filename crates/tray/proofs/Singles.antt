@@ -1,5 +1,5 @@
 -- "Exactly one member" meets three states and keeps three.
-use Rattle.std.proofs.Common.{◌≡◌, ℕ, zero, suc, ◌+◌, ◌*◌, ◌<◌, ◌≤◌, Bool, true, false, ◌⊎◌, List, [], ◌∷◌, ◌++◌, map, length, get_or, drop, set, Ok, Err, Decides, Result, sym, refl, ap, ◌∙◌, subst, ap₂, inl, inr, ⊎_elim, arith, pow_pos}
+use Rattle.std.proofs.Common.{◌≡◌, ℕ, zero, suc, ◌+◌, ◌*◌, ◌<◌, ◌≤◌, Bool, List, [], ◌∷◌, ◌++◌, map, length, get_or, drop, set, Ok, Err, Decides, Result, sym, refl, ap, ◌∙◌, subst, ap₂, ⊎_elim, arith, pow_pos}
 use Rattle.std.proofs.lemmas.List.{append-nil, get_or-set_same}
 use Rattle.std.proofs.lemmas.Bool.{cases_lt, true≢false}
 use Rattle.std.proofs.lemmas.Bool.Decides.{same_from_decides}
@@ -7,7 +7,7 @@ use Rattle.words.specs.Words.{Columns, coded}
 use Rattle.words.specs.Automata.{Automaton, run, accepted, language}
 use Rattle.words.specs.Relations.{Singleton}
 use Rattle.words.specs.Residuals.{SameResidual, Count, MoreThan}
-use Rattle.words.specs.TableOf.{TableOf, answers}
+use Rattle.words.specs.TableOf.{answers}
 use Rattle.words.specs.Formulas.{through}
 use Rattle.words.specs.Hiding.{turned}
 use Rattle.words.proofs.Counts.{within, pigeons}

@@ -1,7 +1,7 @@
 -- The laws of formulas.
-use Rattle.std.proofs.Common.{◌≡◌, ℕ, ◌<◌, Bool, true, false, not, ◌⊎◌, List, Decides, sym, ap, ◌∙◌, subst, inl, inr, ⊎_elim}
+use Rattle.std.proofs.Common.{◌≡◌, ℕ, Bool, true, List, sym, ◌∙◌, inl, inr, ⊎_elim}
 use Rattle.std.proofs.lemmas.Bool.{true≢false}
-use Rattle.words.specs.Words.{Columns, coded}
+use Rattle.words.specs.Words.{coded}
 use Rattle.words.specs.Residuals.{BySets}
 use Rattle.words.specs.Formulas.{Formula, Truth, Names, Tells}
 use Rattle.words.proofs.Coding.{every_choice}

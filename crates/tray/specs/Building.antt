@@ -1,5 +1,5 @@
 -- Building calls: each puts one new table on top of those that it leaves, and answers two counts.
-use Rattle.std.specs.Prelude.{◌≡◌, ℕ, ◌+◌, ◌*◌, ◌<◌, ◌≤◌, List, length, Ok, Err, Decides, Result}
+use Rattle.std.specs.Prelude.{◌≡◌, ℕ, ◌+◌, ◌*◌, ◌<◌, ◌≤◌, List, Ok, Err, Decides, Result}
 use Rattle.words.specs.Words.{Columns}
 use Rattle.words.specs.Residuals.{SameResidual, Count}
 use Rattle.tables.specs.Tabulated.{Elsewhere}

@@ -1,5 +1,5 @@
 -- Formulas and the calls: what the new top of a building call tells, and what a verdict says about finite sets.
-use Rattle.std.specs.Prelude.{◌≡◌, ℕ, Bool, true, List, map, Decides, ◌≢◌}
+use Rattle.std.specs.Prelude.{ℕ, Bool, true, List, map, Decides, ◌≢◌}
 use Rattle.words.specs.Words.{Columns, coded}
 use Rattle.words.specs.Relations.{Singleton}
 use Rattle.words.specs.Residuals.{BySets}

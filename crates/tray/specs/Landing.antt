@@ -1,5 +1,5 @@
 -- A new table in its slot: what the parts of a building call that explore answer.
-use Rattle.std.specs.Prelude.{◌≡◌, ℕ, ◌*◌, ◌<◌, ◌≤◌, List, drop, Ok, Err, Decides, Result}
+use Rattle.std.specs.Prelude.{◌≡◌, ℕ, ◌*◌, ◌≤◌, List, drop, Ok, Err, Decides, Result}
 use Rattle.words.specs.Words.{Columns, coded}
 use Rattle.words.specs.Relations.{Singleton}
 use Rattle.words.specs.Rows.{width}

@@ -1,5 +1,5 @@
 -- Opening a tray.
-use Rattle.std.specs.Prelude.{◌≡◌, ℕ, ◌*◌, ◌<◌, ◌≤◌, ◌⊎◌, List, [], ◌∷◌, length, Ok, Err, Result}
+use Rattle.std.specs.Prelude.{◌≡◌, ℕ, ◌*◌, ◌<◌, ◌⊎◌, List, [], ◌∷◌, Ok, Err, Result}
 use Rattle.words.specs.Rows.{width}
 use Rattle.tray.specs.declared.control.Control.{Control}
 use Rattle.tray.specs.declared.refusal.Refusal.{Refusal}

@@ -1,5 +1,5 @@
 -- What a tray holds, as its control record and its table memory show it. Table k, counted from the lowest, lies in slot k.
-use Rattle.std.specs.Prelude.{ℕ, ◌*◌, ◌<◌, ◌≤◌, Bool, List, drop, slice_index}
+use Rattle.std.specs.Prelude.{ℕ, ◌*◌, ◌≤◌, Bool, List, drop, slice_index}
 use Rattle.words.specs.Rows.{width}
 use Rattle.words.specs.Residuals.{BySets}
 use Rattle.words.specs.TableOf.{TableOf, answers}

@@ -1,4 +1,4 @@
-use Rattle.std.proofs.Common.{◌≡◌, ℕ, ◌+◌, ◌*◌, ◌≤◌, Bool, List, length, drop, sym, refl, ap, ◌∙◌, subst, arith}
+use Rattle.std.proofs.Common.{◌≡◌, ℕ, ◌*◌, ◌≤◌, Bool, List, length, drop, sym, subst, arith}
 use Rattle.words.specs.Hiding.{Hides, SameCollection}
 use Rattle.words.specs.Rows.{width}
 use Rattle.words.specs.TableOf.{TableOf, answers}

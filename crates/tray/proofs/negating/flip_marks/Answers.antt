@@ -1,4 +1,4 @@
-use Rattle.std.proofs.Common.{◌≡◌, ℕ, ◌+◌, ◌-◌, ◌*◌, ◌^◌, ◌<◌, ◌≤◌, Bool, true, false, cond, not, eqb, length, set, sym, refl, ap, ◌∙◌, subst, arith}
+use Rattle.std.proofs.Common.{◌≡◌, ℕ, ◌+◌, ◌-◌, ◌*◌, ◌^◌, ◌<◌, Bool, true, false, cond, not, eqb, length, sym, refl, ap, ◌∙◌, subst, arith}
 use Rattle.words.specs.Rows.{width}
 use Rattle.words.proofs.Cells.{cell_below}
 use Rattle.tray.specs.Flipped.{mark_at, Flipped}

@@ -1,9 +1,9 @@
-use Rattle.std.proofs.Common.{◌≡◌, ℕ, ◌+◌, ◌*◌, ◌≤◌, List, map, length, get_or, sym, refl, ap, ◌∙◌, subst, arith}
+use Rattle.std.proofs.Common.{◌≡◌, ℕ, ◌*◌, ◌≤◌, List, map, length, refl, subst, arith}
 use Rattle.words.specs.Words.{coded}
 use Rattle.words.specs.Automata.{SameReach, language}
 use Rattle.words.specs.Rows.{width}
 use Rattle.words.proofs.Pairing.{count_same}
-use Rattle.tables.specs.Tabulated.{Elsewhere, Enough}
+use Rattle.tables.specs.Tabulated.{Elsewhere}
 use Rattle.tray.specs.Asked.{asked, SameBookState}
 use Rattle.tray.proofs.Askings.{asked_same, same_asked, asked_means}
 use Rattle.tray.proofs.Landings.{lands, not_landed, work_room, slot_fits}

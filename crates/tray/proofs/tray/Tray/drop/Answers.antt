@@ -1,4 +1,4 @@
-use Rattle.std.proofs.Common.{ℕ, ◌-◌, ◌<◌, refl, arith}
+use Rattle.std.proofs.Common.{◌-◌, refl, arith}
 use mathlib.Core.Logic.{∥∥₁_map}
 use Rattle.tray.proofs.Builts.{keeps_moved, stands_same}
 use Rattle.tray.proofs.tray.Tray.drop.Goals as goal

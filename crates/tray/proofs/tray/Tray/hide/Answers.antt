@@ -1,4 +1,4 @@
-use Rattle.std.proofs.Common.{◌≡◌, ℕ, ◌+◌, ◌-◌, ◌*◌, ◌<◌, ◌≤◌, Bool, List, length, drop, Ok, Err, sym, refl, subst, arith}
+use Rattle.std.proofs.Common.{ℕ, ◌+◌, ◌-◌, ◌*◌, ◌≤◌, Bool, List, length, drop, Ok, Err, sym, refl, subst, arith}
 use Rattle.words.specs.Hiding.{Hides, SameCollection}
 use Rattle.words.specs.Residuals.{BySets}
 use Rattle.words.specs.TableOf.{TableOf, answers}

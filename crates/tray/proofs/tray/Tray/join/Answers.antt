@@ -1,12 +1,11 @@
-use Rattle.std.proofs.Common.{◌≡◌, ℕ, suc, ◌+◌, ◌-◌, ◌*◌, ◌<◌, ◌≤◌, List, length, drop, Ok, Err, sym, refl, ◌∙◌, subst, arith}
+use Rattle.std.proofs.Common.{◌≡◌, ℕ, suc, ◌+◌, ◌-◌, ◌*◌, ◌<◌, ◌≤◌, List, length, Ok, Err, sym, refl, subst, arith}
 use Rattle.words.specs.Residuals.{SamePair}
 use Rattle.words.specs.TableOf.{TableOf, answers}
 use Rattle.words.proofs.Pairing.{pair_equality}
 use Rattle.tray.specs.Calls.{join_checks, too_many}
 use Rattle.tray.specs.Joined.{Joins}
-use Rattle.tray.specs.Landing.{Lands, Landed}
 use Rattle.tray.specs.Refusals.{number_of}
-use Rattle.tray.specs.View.{slot, size_of, rows_of, says}
+use Rattle.tray.specs.View.{slot, size_of, says}
 use Rattle.tray.proofs.Builts.{built_keeps, tray_built}
 use Rattle.tray.proofs.Checking.{passes, exceeds, fails_early, not_below, neither_below, has_budget, within_slots}
 use Rattle.tray.proofs.Joinings.{lower_rows, upper_rows, landed_said, joins_move}

@@ -1,4 +1,4 @@
-use Rattle.std.proofs.Common.{◌≡◌, ℕ, ◌+◌, ◌-◌, ◌*◌, ◌<◌, ◌≤◌, List, length, drop, sym, ap, ◌∙◌, subst, ⊎_elim, arith}
+use Rattle.std.proofs.Common.{◌≡◌, ℕ, ◌-◌, ◌*◌, ◌≤◌, List, length, drop, sym, ap, ◌∙◌, subst, ⊎_elim, arith}
 use Rattle.words.specs.TableOf.{TableOf}
 use Rattle.tray.specs.View.{slot, size_of, rows_of, says}
 use Rattle.tray.proofs.Builts.{fits_slot}

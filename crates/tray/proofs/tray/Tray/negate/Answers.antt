@@ -1,10 +1,10 @@
-use Rattle.std.proofs.Common.{◌≡◌, ℕ, ◌+◌, ◌-◌, ◌*◌, ◌<◌, ◌≤◌, Bool, true, List, length, set, sym, refl, ap, ◌∙◌, subst, arith}
+use Rattle.std.proofs.Common.{◌≡◌, ℕ, ◌+◌, ◌-◌, ◌*◌, ◌≤◌, Bool, true, List, length, sym, refl, subst, arith}
 use Rattle.words.specs.Residuals.{SameResidual}
 use Rattle.words.specs.Rows.{width}
 use Rattle.tray.specs.Building.{Built}
-use Rattle.tray.specs.View.{slot, size_of, rows_of, says}
+use Rattle.tray.specs.View.{slot, size_of, says}
 use Rattle.tray.proofs.Builts.{Keeps, built_keeps, tray_built, fits_slot}
-use Rattle.tray.proofs.Checking.{not_below, within_slots}
+use Rattle.tray.proofs.Checking.{within_slots}
 use Rattle.tray.proofs.Landings.{slot_fits}
 use Rattle.tray.proofs.Negatings.{negated_at, not_moves, same_control}
 use Rattle.tray.proofs.Recovering.{table_in, by_sets_in}

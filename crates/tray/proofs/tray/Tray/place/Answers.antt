@@ -1,4 +1,4 @@
-use Rattle.std.proofs.Common.{◌≡◌, ℕ, ◌+◌, ◌*◌, ◌<◌, ◌≤◌, List, map, length, sym, refl, subst, arith}
+use Rattle.std.proofs.Common.{ℕ, ◌+◌, ◌*◌, ◌≤◌, List, map, length, sym, refl, subst, arith}
 use Rattle.words.specs.Words.{coded}
 use Rattle.tray.specs.Asked.{SameBookState}
 use Rattle.tray.specs.Calls.{place_checks, too_many}

@@ -1,4 +1,4 @@
-use Rattle.std.proofs.Common.{◌≡◌, ℕ, ◌+◌, ◌*◌, ◌<◌, ◌≤◌, List, length, set, sym, refl, subst, mul-le-mul_right, arith}
+use Rattle.std.proofs.Common.{ℕ, ◌+◌, ◌*◌, ◌<◌, ◌≤◌, length, set, sym, refl, subst, mul-le-mul_right, arith}
 use Rattle.words.specs.Words.{coded}
 use Rattle.words.specs.Relations.{Singleton}
 use Rattle.words.specs.Residuals.{SameResidual}
