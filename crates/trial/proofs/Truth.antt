@@ -1,17 +1,16 @@
 -- A word whose output was corrected: what it codes, and when the book's sum holds of it.
-use Rattle.std.proofs.Common.{◌≡◌, ℕ, zero, suc, ◌+◌, ◌*◌, ◌/◌, ◌%◌, ◌^◌, ◌<◌, ◌≤◌, Bool, List, [], ◌∷◌, ◌++◌, length, get_or, Err, Decides, sym, refl, ap, ◌∙◌, subst, lt_of_lt_of_le, mod-lt, mod-eq_of_lt, pow-suc, add-one, arith, pow_pos, pow_mono, below_more}
+use Rattle.std.proofs.Common.{◌≡◌, ℕ, ◌+◌, ◌*◌, ◌%◌, ◌^◌, ◌<◌, ◌≤◌, Bool, List, [], ◌∷◌, ◌++◌, length, get_or, Err, Decides, sym, ap, ◌∙◌, subst, lt_of_lt_of_le, mod-lt, mod-eq_of_lt, pow-suc, add-one, arith, pow_pos, pow_mono, below_more}
 use Rattle.std.proofs.lemmas.List.{length_push, get_or_push, get_or_append_left}
 use Rattle.words.specs.Sets.{bit}
 use Rattle.words.specs.Words.{Columns, coded}
 use Rattle.words.specs.Relations.{Sum, Ternary}
-use Rattle.words.proofs.Bits.{bit_small, value_is}
+use Rattle.words.proofs.Bits.{bit_small}
 use Rattle.words.proofs.Coding.{coded_bit, coded_below, coded_by_bits, columns_at, columns_by}
 use Rattle.words.proofs.Reading.{sum_plain}
 use Rattle.books.specs.Question.{Answers}
 use Rattle.books.specs.declared.question.NoAnswer.{NoAnswer}
 use Rattle.books.specs.declared.question.NoAnswer.TheVariants.{NoPredicate, NoColumn}
 use Rattle.trial.specs.Examined.{Corrected, Found}
-use Rattle.trial.specs.declared.finding.Finding.{Finding}
 
 -- of columns in range, `sum` is never without an answer
 pub answered : (w : List ℕ) (e : NoAnswer) → Columns 3 w → Answers 6 3 (Ternary Sum) 4 w (Err e) → ⊥

@@ -1,5 +1,5 @@
 -- The last word that each board recorded.
-use Rattle.std.specs.Prelude.{◌≡◌, Some, None, Option}
+use Rattle.std.specs.Prelude.{◌≡◌, Some, Option}
 use Rattle.trial.specs.declared.past.Past.{Past}
 use Rattle.trial.specs.declared.past.Seen.{Seen}
 use Rattle.trial.specs.declared.recording.Board.{Board}

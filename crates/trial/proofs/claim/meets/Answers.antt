@@ -1,4 +1,4 @@
-use Rattle.std.proofs.Common.{◌≡◌, ℕ, ◌+◌, true, Decides, sym, refl, subst, arith}
+use Rattle.std.proofs.Common.{ℕ, ◌+◌, true, Decides, sym, refl, subst, arith}
 use Rattle.words.specs.Words.{coded}
 use Rattle.words.specs.Relations.{Sum}
 use Rattle.words.proofs.Reading.{sum_plain}

@@ -8,7 +8,7 @@ use Rattle.trial.proofs.finding.corrected.Goals as goal
 use Rattle.trial.proofs.finding.corrected.Goals.{then-p-word, else-p-word}
 
 -- past the word's end there are no inputs
-inputs : (c : goal.In-ok-push) → c.if-p-word.inputs ≡ get_or c.args.word.now c.loop-p.p 0
+inputs : (c : goal.In_ok-push) → c.if-p-word.inputs ≡ get_or c.args.word.now c.loop-p.p 0
 inputs c =
     elim c.if-p-word.branch [
       | then-p-word w ↦ w.inputs-is

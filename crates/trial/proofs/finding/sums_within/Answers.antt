@@ -1,4 +1,4 @@
-use Rattle.std.proofs.Common.{vec_items, sym, subst}
+use Rattle.std.proofs.Common.{sym, subst}
 use Rattle.trial.specs.Examined.{Corrected}
 use Rattle.trial.proofs.Truth.{corrected_sums}
 use Rattle.trial.proofs.finding.sums_within.Goals as goal
