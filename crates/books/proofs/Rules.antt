@@ -1,5 +1,5 @@
 -- What the set rule gives where a predicate was run over a word.
-use Rattle.std.proofs.Common.{◌≡◌, ℕ, ◌<◌, Bool, List, Decides as Tells, sym, ◌∙◌}
+use Rattle.std.proofs.Common.{◌≡◌, ℕ, Bool, List, Decides as Tells, sym, ◌∙◌}
 use Rattle.words.specs.Automata.{Automaton, accepted}
 use Rattle.words.specs.Words.{Columns, sets}
 use Rattle.books.specs.Rule.{Decides}

@@ -1,6 +1,6 @@
 -- The standard book keeps the set rule: for each predicate the meaning of each state, and that its row keeps it.
-use Rattle.std.specs.Prelude.{◌≡◌, ℕ, zero, suc, ◌+◌, ◌*◌, ◌<◌, ◌≤◌, Bool, true, false, ◌↔◌, List, [], ◌∷◌, refl}
-use Rattle.std.proofs.Common.{arith, sym, ◌∙◌}
+use Rattle.std.specs.Prelude.{◌≡◌, ℕ, zero, suc, ◌+◌, ◌*◌, ◌<◌, Bool, true, false, ◌↔◌, List, [], ◌∷◌, refl}
+use Rattle.std.proofs.Common.{arith}
 use Rattle.std.proofs.lemmas.Bool.{false≢true}
 use Rattle.std.proofs.lemmas.List.{get_or_past}
 use Rattle.words.specs.Sets.{Empty, Only}
@@ -9,7 +9,7 @@ use Rattle.words.specs.Relations.{Within, Singleton, Successor, Less, Sum, Unary
 use Rattle.words.specs.Rows.{written}
 use Rattle.words.proofs.Reading.{neither, empty_of_zero, empty_0, empty_1, only_zero_0, only_zero_1, only_of_zero, singleton_0, singleton_1, within_on, within_off, successor_00, successor_10, successor_1, less_00, less_10, less_1, sum_plain}
 use Rattle.words.proofs.Deciding.{Each, each}
-use Rattle.books.specs.Rule.{Decides, Absent, SetRule}
+use Rattle.books.specs.Rule.{Decides, SetRule}
 use Rattle.books.specs.WrittenRule.{written_silent, written_decides}
 use Rattle.books.specs.Standard.{sub_rows, one_rows, suc_rows, les_rows, sum_rows, emp_rows, count, places, states, rows, automaton, holds}
 

@@ -1,5 +1,5 @@
 -- When an automaton that is written out in rows keeps the set rule: proofs, used where a book gives its rule.
-use Rattle.std.specs.Prelude.{◌≡◌, ℕ, ◌^◌, ◌<◌, ◌≤◌, Bool, true, false, ◌&&◌, ltb, ◌↔◌, List, [], ◌∷◌, nat_lt}
+use Rattle.std.specs.Prelude.{◌≡◌, ℕ, ◌^◌, ◌<◌, ◌≤◌, Bool, true, ◌&&◌, ltb, ◌↔◌, List, [], ◌∷◌, nat_lt}
 use Rattle.std.proofs.Common.{⊎_elim}
 use Rattle.std.proofs.lemmas.Bool.{ltb-true, le-ltb, and_left, and_right, cond-false}
 use Rattle.words.specs.Words.{sets}

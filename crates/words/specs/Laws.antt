@@ -1,4 +1,4 @@
--- What the definitions of sets, words and their order come to, as statements. The function `laws` carries their proofs.
+-- What the definitions of sets, words and their order come to, as statements. The function `laws_of_words` carries their proofs.
 use Rattle.std.specs.Prelude.{◌≡◌, ℕ, ◌<◌, ◌⊎◌, ◌↔◌, List, ◌++◌, replicate, slice_index}
 use Rattle.words.specs.Sets.{bit, Member, value}
 use Rattle.words.specs.Words.{Columns, coded}

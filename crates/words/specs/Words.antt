@@ -14,6 +14,6 @@ abbrev pub coded : ℕ → List ℕ → ℕ
 coded i [] = 0
 coded i (c ∷ w) = bit i c + 2 * coded i w
 
--- the sets 0 to n - 1 of a word, in order (`counting 0 n` is the list of the numbers below n)
+-- the sets 0 to n - 1 of a word, in order (`range_with_len 0 n` is the list of the numbers below n)
 abbrev pub sets : ℕ → List ℕ → List ℕ
 sets n w = map (λ i. coded i w) (range_with_len 0 n)

@@ -1,5 +1,5 @@
-use Rattle.std.proofs.Common.{◌≡◌, ℕ, ◌+◌, sym, ap, ◌∙◌}
-use Rattle.words.specs.Automata.{Automaton, run}
+use Rattle.std.proofs.Common.{sym, ap, ◌∙◌}
+use Rattle.words.specs.Automata.{run}
 use Rattle.words.proofs.Runs.{run_more, run_all}
 use Rattle.books.proofs.question.run.Goals as goal
 
