@@ -2,11 +2,10 @@
 """Brings the repository's own definitions and lemmas to snake case: usage, at the top: python3 tools/snake_names.py [--list]
 A name counts as its own where a file of specs/ or proofs/ defines it, binds it or has it as a field, and it is no goal's name.
 A dash inside such a name becomes an underscore, everywhere in .antt files and in the clauses of .rt files.
-Names that would fall together with another name of theirs are left, and listed."""
+With --list it writes nothing, and names those that would fall together with another; they get a name of their own below."""
 import os, re, sys
 
 WORD = r"[A-Za-z0-9_'\u2080-\u2089\u03b1-\u03c9\u03bc]"
-NAME = re.compile(rf"(?<![\w'.\-])(?:{WORD}+)(?:-{WORD}+)+(?![\w'\-])")
 DEFINES = re.compile(rf"^\s*(?:(?:pub|abbrev|unfoldable|data|record|let)\s+)*({WORD}+(?:-{WORD}+)+)\s*:(?!\s*(?:goal|need)\.)", re.M)
 BINDS = re.compile(rf"(?:let|λ|in let|[({{])\s*((?:{WORD}+(?:-{WORD}+)*\s+)*?{WORD}+(?:-{WORD}+)*)\s*(?:=|:|\.\s)")
 
@@ -17,10 +16,6 @@ def files(root):
         for n in names:
             if n.endswith((".rt", ".antt")):
                 yield os.path.join(folder, n)
-    for folder in ():
-        for n in os.listdir(os.path.join(root, folder)):
-            if n.endswith(".md"):
-                yield os.path.join(root, folder, n)
 
 
 def read(p):

@@ -156,3 +156,62 @@ fn tell_seen(rt: &HostRuntime, names: Labels, seen: Seen) -> io::Result<()> {
     )?;
     tell_set(rt, names.said, Bits { set: said, columns })
 }
+
+#[cfg(test)]
+mod tests {
+    use super::*;
+
+    // Makes the calls of a claim; whether none was refused.
+    fn built(tray: &mut Tray, work: &mut Work, calls: &[Call]) -> bool {
+        for call in calls {
+            if make(tray, work, *call).is_err() {
+                return false;
+            }
+        }
+        true
+    }
+
+    // Builds the first claims on a board, so many, each on a tray with those before it.
+    fn all_built(tray: &mut Tray, board: Board, count: usize) -> bool {
+        let mut work = Work::new();
+        if tray.open(SETS, BUDGET, DEPTH).is_err() {
+            return false;
+        }
+        for claim in claims_on(board).iter().take(count) {
+            if !built(tray, &mut work, calls_of(*claim)) {
+                return false;
+            }
+        }
+        true
+    }
+
+    // The verdict on the last of the first claims on a board, and how many states its table has.
+    fn decided(board: Board, count: usize) -> Option<(Verdict, usize)> {
+        let mut tables = [0u16; TABLES];
+        let mut spare = [0u16; SPARE];
+        let mut tray = Tray::over(&mut tables, &mut spare);
+        if !all_built(&mut tray, board, count) {
+            return None;
+        }
+        match tray.judge(&mut [0; BUDGET], &mut [0; BUDGET]) {
+            Ok(judgement) => Some((judgement.verdict, judgement.states)),
+            Err(_) => None,
+        }
+    }
+
+    // The values are those of the claims as relations of numbers, found by trying all words of up to three columns.
+    #[test]
+    fn claims_on_an_adder(rt: HostRuntime) {
+        assert_eq!(rt; claims_on(Board::Adder).len(), 2);
+        assert_eq!(rt; decided(Board::Adder, 1), Some((Verdict::SomeSets, 3)));
+        assert_eq!(rt; decided(Board::Adder, 2), Some((Verdict::AllSets, 1)));
+    }
+
+    #[test]
+    fn claims_on_a_counter(rt: HostRuntime) {
+        assert_eq!(rt; claims_on(Board::Counter).len(), 3);
+        assert_eq!(rt; decided(Board::Counter, 1), Some((Verdict::SomeSets, 5)));
+        assert_eq!(rt; decided(Board::Counter, 2), Some((Verdict::AllSets, 1)));
+        assert_eq!(rt; decided(Board::Counter, 3), Some((Verdict::NoSets, 1)));
+    }
+}
