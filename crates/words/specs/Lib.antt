@@ -4,6 +4,7 @@ pub mod Order
 pub mod Relations
 pub mod Automata
 pub mod Rows
+pub mod Described
 pub mod Links
 pub mod Residuals
 pub mod TableOf
