@@ -1,5 +1,8 @@
 -- What a word codes: by positions, by every choice of sets, and with zeros at its end.
 use Rattle.std.proofs.Common.{◌≡◌, ℕ, zero, suc, ◌+◌, ◌-◌, ◌*◌, ◌/◌, ◌%◌, ◌^◌, ◌<◌, ◌≤◌, ◌↔◌, List, [], ◌∷◌, ◌++◌, length, get_or, take, drop, replicate, sym, refl, ap, ◌∙◌, subst, ⊎_elim, pow-suc, arith, pow_pos}
+use Rattle.std.specs.Prelude.{Option, Some, None, MatchOption}
+use Rattle.std.specs.List.{HoldsAt, AllWithin}
+use Rattle.std.proofs.lemmas.List.{take_all}
 use lib.Arith.{half_le, mod-mul}
 use Rattle.std.proofs.lemmas.Bool.{cases_lt}
 use Rattle.std.proofs.lemmas.List.{take_more, drop_more}
@@ -72,6 +75,23 @@ columns_last n (d ∷ w) c cs = columns_last n w c cs.1
 pub columns_more : (n : ℕ) (w : List ℕ) (i : ℕ) → i < length w → Columns n (take i w) → get_or w i 0 < 2 ^ n → Columns n (take (i + 1) w)
 columns_more n w i within cs h =
     subst (Columns n) (sym (take_more w i 0 within)) (columns_push n (take i w) (get_or w i 0) cs h)
+
+-- the front of a word whose first k columns are in range
+columns_within : (n : ℕ) (w : List ℕ) (k : ℕ) → k ≤ length w → AllWithin (λ x. x < 2 ^ n) w 0 k → Columns n (take k w)
+columns_within n w zero within all = tt
+columns_within n w (suc k) within all =
+    let front = columns_within n w k (omega (arith, within)) (λ i d low h. all i d low (omega (arith, h))) in
+    let next : k + 1 ≡ suc k = omega arith in
+    subst (λ j. Columns n (take j w)) next (columns_more n w k (omega (arith, within)) front (all k 0 (omega arith) (omega arith)))
+
+-- what a search for the first column that is out of range comes to
+pub first_out_of_range : (n : ℕ) (w : List ℕ) (r : Option ℕ)
+    → MatchOption r (AllWithin (λ x. x < 2 ^ n) w 0 (length w))
+    (λ i. (i < length w) × HoldsAt (λ x. 2 ^ n ≤ x) w i × AllWithin (λ x. x < 2 ^ n) w 0 i)
+    → MatchOption r (Columns n w) (λ i. (i < length w) × (2 ^ n ≤ get_or w i 0) × Columns n (take i w))
+first_out_of_range n w None all =
+    subst (Columns n) (take_all (length w) w (omega arith)) (columns_within n w (length w) (omega arith) all)
+first_out_of_range n w (Some i) h = (h.0, h.1 0, columns_within n w i (omega (arith, h.0)) h.2)
 
 -- ---- every choice of n sets is coded
 

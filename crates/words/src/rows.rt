@@ -1,6 +1,6 @@
 //! Automata written out in rows.
-ghost use Rattle.std.specs.Prelude.{◌≡◌, ◌≤◌, slice_index, slice_set};
-ghost use Rattle.words.specs.Rows.{written};
+ghost use Rattle.std.specs.Prelude.{◌≡◌, ◌^◌, ◌≤◌, slice_index, slice_set};
+ghost use Rattle.words.specs.Rows.{width};
 
 use crate::word::is_column;
 
@@ -15,29 +15,47 @@ pub struct Rows<'a> {
 }
 
 impl Rows<'_> {
+    ghost use Rattle.words.specs.Described.{described};
+
+    /// How many columns there are over so many places.
+    pub fn columns(&self) -> usize
+        ensures columns { result ≡ 2 ^ self.now.places }
+        ensures few { result ≤ 256 }
+    {
+        1usize << self.places
+    }
+
+    /// How many numbers a row has: a next state for each column, and the mark.
+    pub fn width(&self) -> usize
+        ensures { result ≡ width self.now.places }
+    {
+        self.columns() + 1
+    }
+
     /// The next state.
     pub fn step(&self, state: u16, column: u8) -> u16
-        ensures { result ≡ (written self.now.places self.now.states self.now.cells.now).step state column }
+        ensures { result ≡ (described self.now).step state column }
     {
         if state >= self.states || !is_column(column, self.places) {
             return 0;
         }
-        let columns = 1usize << self.places;
         cell(
             self.cells,
-            usize::from(state) * (columns + 1) + usize::from(column),
+            usize::from(state) * self.width() + usize::from(column),
         )
     }
 
     /// Whether a state accepts.
     pub fn accepts(&self, state: u16) -> bool
-        ensures { result ≡ (written self.now.places self.now.states self.now.cells.now).accepts state }
+        ensures { result ≡ (described self.now).accepts state }
     {
         if state >= self.states {
             return false;
         }
-        let columns = 1usize << self.places;
-        cell(self.cells, usize::from(state) * (columns + 1) + columns) == 1
+        cell(
+            self.cells,
+            usize::from(state) * self.width() + self.columns(),
+        ) == 1
     }
 }
 
@@ -45,13 +63,14 @@ impl Rows<'_> {
 pub fn cell(cells: &[u16], at: usize) -> u16
     ensures { result ≡ slice_index cells.now at }
 {
-    if at < cells.len() { cells[at] } else { 0 }
+    cells.get(at).copied().unwrap_or(0)
 }
 
 /// Writes a number at a place; past the end it writes nothing.
 pub fn put(cells: &mut [u16], at: usize, value: u16)
     ensures { cells.new ≡ slice_set cells.old at value }
 {
+    // Of what `get_mut` lends, a proof would know no more than how long the memory is.
     if at < cells.len() {
         cells[at] = value;
     }

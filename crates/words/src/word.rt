@@ -38,12 +38,7 @@ pub fn nth_column(sets: u8, k: usize) -> u8
 pub fn first_outside(word: &[u8], sets: u8) -> Option<usize>
     ensures { MatchOption result (Columns sets word.now) (λ i. (i < length word.now) × (2 ^ sets ≤ slice_index word.now i) × Columns sets (take i word.now)) }
 {
-    for (i, column) in word.iter().enumerate() {
-        if !is_column(*column, sets) {
-            return Some(i);
-        }
-    }
-    None
+    word.iter().position(|column| !is_column(*column, sets))
 }
 
 /// The set that a word codes, as a number; none where the word has more than 64 columns, which might not fit.
@@ -54,8 +49,8 @@ pub fn number(word: &[u8], set: u8) -> Option<u64>
         return None;
     }
     let mut sum: u64 = 0;
-    for i in (0..word.len()).rev() {
-        sum = 2 * sum + u64::from(in_set(word[i], set));
+    for column in word.iter().rev() {
+        sum = 2 * sum + u64::from(in_set(*column, set));
     }
     Some(sum)
 }

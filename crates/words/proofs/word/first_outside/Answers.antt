@@ -1,13 +1,10 @@
-use Rattle.std.proofs.Common.{subst}
-use Rattle.std.proofs.lemmas.List.{take_all}
-use Rattle.words.specs.Words.{Columns}
-use Rattle.words.proofs.Coding.{columns_more}
+use Rattle.std.proofs.Common.{◌^◌, ◌<◌, ◌≤◌, rules, tests}
+use Rattle.std.proofs.lemmas.Iterator.{IsFirst-from_position, YieldsList-from_slice}
+use Rattle.words.proofs.Coding.{first_out_of_range}
 use Rattle.words.proofs.word.first_outside.Goals as goal
-
-pub loop-i-preserved : goal.loop-i-preserved
-loop-i-preserved c = columns_more c.args.sets c.args.word.now c.loop-i.i c.loop-i-test.true c.loop-i.invariant
-    (c.is_column.ensures.0 c.if-not-is_column.false)
 
 pub returns : goal.returns
 returns c =
-    subst (Columns c.args.sets) (take_all c.loop-i.i c.args.word.now c.loop-i-test.false) c.loop-i.invariant
+    first_out_of_range c.args.sets c.args.word.now c.position.result
+    (IsFirst-from_position _ _ _ (λ x. 2 ^ c.args.sets ≤ x) (λ x. x < 2 ^ c.args.sets) c.position.ensures.ran
+    (YieldsList-from_slice c.args.word.now c.iter.ensures.rest) (λ x q k. search (rules, tests)) (λ x q k. search (rules, tests)))
