@@ -1,6 +1,6 @@
 //! Claims with a long shortest word. Set 0 is {p} and set 1 is {p + k}, which takes a state for each position between,
 //! and as many rounds of merging.
-use crate::call::Call;
+use calls::Call;
 
 /// Set 0 is {p}, and set 1 is {p + 1}.
 pub const NEXT: [Call; 1] = [Call::Suc(0, 1)];

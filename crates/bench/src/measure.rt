@@ -1,13 +1,17 @@
 //! Making the calls, and telling the counts of each and, where it is asked for, its time.
-use crate::call::{BUDGET, Call, Work, make, name_of};
 use crate::chain;
-use crate::multiples::{GROWTH, calls_of};
+use crate::multiples::GROWTH;
+use calls::{Call, Step, Stopped, Work, make};
 use std::io;
+use std::rt::Clock;
 use std::time::{Duration, Instant};
-use tray::{Refusal, Tray};
+use tray::Tray;
 
-// How many tables the tray holds at most.
-const DEPTH: usize = 2;
+/// How many states one call may meet: as many as a tray can have.
+pub const BUDGET: usize = 512;
+
+/// How many tables the tray holds at most.
+pub const DEPTH: usize = 2;
 
 /// How many sets the claims are over, and whether times are told.
 #[derive(Clone, Copy)]
@@ -23,123 +27,118 @@ enum Telling {
     Made,
 }
 
-/// Opens the tray for the multiples, makes their calls, and judges after each part.
-pub fn measure_multiples(rt: &HostRuntime, tray: &mut Tray, setting: Setting) -> io::Result<()> {
-    if let Err(why) = tray.open(setting.sets, BUDGET, DEPTH) {
-        return tell_refusal(rt, "open", why);
-    }
-    let mut work = Work::new();
-    for part in &GROWTH {
-        if !measure_calls(rt, tray, &mut work, calls_of(*part), setting, Telling::Told)? {
-            return Ok(());
-        }
-        measure_judge(rt, tray, setting)?;
-    }
-    Ok(())
-}
-
-/// Opens the tray for the chain, makes its calls, and tells and judges some of them.
-pub fn measure_chain(rt: &HostRuntime, tray: &mut Tray, setting: Setting) -> io::Result<()> {
-    if let Err(why) = tray.open(setting.sets, BUDGET, DEPTH) {
-        return tell_refusal(rt, "open", why);
-    }
-    let mut work = Work::new();
-    if !measure_calls(rt, tray, &mut work, &chain::NEXT, setting, Telling::Told)? {
-        return Ok(());
-    }
-    for k in 1..=chain::LENGTHENED {
-        let told = if k % chain::TOLD_EACH == 0 {
-            Telling::Told
-        } else {
-            Telling::Made
-        };
-        if !measure_calls(rt, tray, &mut work, &chain::TWO_FURTHER, setting, told)? {
-            return Ok(());
-        }
-        if told == Telling::Told {
-            measure_judge(rt, tray, setting)?;
-        }
-    }
-    if measure_calls(
-        rt,
-        tray,
-        &mut work,
-        &chain::OR_WITHIN,
-        setting,
-        Telling::Told,
-    )? {
-        measure_judge(rt, tray, setting)?;
-    }
-    Ok(())
-}
-
-// Makes the calls one by one; whether none was refused.
-fn measure_calls(
-    rt: &HostRuntime,
-    tray: &mut Tray,
-    work: &mut Work,
-    calls: &[Call],
+/// A tray on which calls are measured, and the memory that they work in.
+#[derive(Drop)]
+pub struct Bench<'m, 's> {
+    tray: Tray<'m, 's>,
+    work: Work<BUDGET>,
     setting: Setting,
-    telling: Telling,
-) -> io::Result<bool> {
-    for call in calls {
+}
+
+impl<'m, 's> Bench<'m, 's> {
+    pub fn over(tables: &'m mut [u16], spare: &'s mut [u16], setting: Setting) -> Bench<'m, 's> {
+        Bench {
+            tray: Tray::over(tables, spare),
+            work: Work::new(),
+            setting,
+        }
+    }
+
+    /// Opens the tray for the multiples, makes their calls, and judges after each part.
+    pub fn measure_multiples(&mut self, rt: &(impl Print + Clock)) -> Result<(), Stopped> {
+        self.open()?;
+        for calls in GROWTH {
+            self.make(rt, calls, Telling::Told)?;
+            self.judge(rt)?;
+        }
+        Ok(())
+    }
+
+    /// Opens the tray for the chain, makes its calls, and tells and judges some of them.
+    pub fn measure_chain(&mut self, rt: &(impl Print + Clock)) -> Result<(), Stopped> {
+        self.open()?;
+        self.make(rt, &chain::NEXT, Telling::Told)?;
+        for k in 1..=chain::LENGTHENED {
+            if k % chain::TOLD_EACH == 0 {
+                self.make(rt, &chain::TWO_FURTHER, Telling::Told)?;
+                self.judge(rt)?;
+            } else {
+                self.make(rt, &chain::TWO_FURTHER, Telling::Made)?;
+            }
+        }
+        self.make(rt, &chain::OR_WITHIN, Telling::Told)?;
+        self.judge(rt)
+    }
+
+    fn open(&mut self) -> Result<(), Stopped> {
+        self.tray
+            .open(self.setting.sets, BUDGET, DEPTH)
+            .map_err(|why| Stopped::Refused(Step::Open, why))
+    }
+
+    // Makes the calls one by one.
+    fn make(
+        &mut self,
+        rt: &(impl Print + Clock),
+        calls: &[Call],
+        telling: Telling,
+    ) -> Result<(), Stopped> {
+        let Bench {
+            tray,
+            work,
+            setting,
+        } = self;
+        for call in calls {
+            let start = Instant::now(rt)?;
+            let counts = make(tray, work, *call);
+            let time = start.elapsed(rt)?;
+            let (met, kept) = counts.map_err(|why| Stopped::Refused(Step::Make(*call), why))?;
+            if telling == Telling::Told {
+                let name = call.name();
+                let sets = setting.sets;
+                print!(rt; "{name:<6} {sets} sets {met:>4} met {kept:>4} states")?;
+                setting.tell_time(rt, time)?;
+            }
+        }
+        Ok(())
+    }
+
+    fn judge(&self, rt: &(impl Print + Clock)) -> Result<(), Stopped> {
+        let mut meeting = [0u8; BUDGET];
+        let mut failing = [0u8; BUDGET];
         let start = Instant::now(rt)?;
-        let counts = make(tray, work, *call);
+        let judged = self.tray.judge(&mut meeting, &mut failing);
         let time = start.elapsed(rt)?;
-        match counts {
-            Ok((met, kept)) => {
-                if telling == Telling::Told {
-                    tell_call(rt, *call, setting, met, kept)?;
-                    tell_time(rt, setting, time)?;
-                }
-            }
-            Err(why) => {
-                tell_refusal(rt, name_of(*call), why)?;
-                return Ok(false);
-            }
+        let states = judged
+            .map_err(|why| Stopped::Refused(Step::Judge, why))?
+            .states;
+        let sets = self.setting.sets;
+        print!(rt; "judge  {sets} sets          {states:>4} states")?;
+        self.setting.tell_time(rt, time)?;
+        Ok(())
+    }
+}
+
+impl Setting {
+    // Ends a line, with the time in milliseconds where it is asked for.
+    fn tell_time(self, rt: &impl Print, time: Duration) -> io::Result<()> {
+        if !self.timed {
+            return println!(rt; "");
         }
-    }
-    Ok(true)
-}
-
-fn tell_call(
-    rt: &HostRuntime,
-    call: Call,
-    setting: Setting,
-    met: usize,
-    kept: usize,
-) -> io::Result<()> {
-    let name = name_of(call);
-    let sets = setting.sets;
-    print!(rt; "{name:<6} {sets} sets {met:>4} met {kept:>4} states")
-}
-
-fn measure_judge(rt: &HostRuntime, tray: &Tray, setting: Setting) -> io::Result<()> {
-    let mut meeting = [0u8; BUDGET];
-    let mut failing = [0u8; BUDGET];
-    let start = Instant::now(rt)?;
-    let judged = tray.judge(&mut meeting, &mut failing);
-    let time = start.elapsed(rt)?;
-    match judged {
-        Ok(judgement) => {
-            let sets = setting.sets;
-            let states = judgement.states;
-            print!(rt; "judge  {sets} sets          {states:>4} states")?;
-            tell_time(rt, setting, time)
-        }
-        Err(why) => tell_refusal(rt, "judge", why),
+        let micros = time.as_micros();
+        println!(rt; " {:>6}.{:03} ms", micros / 1000, micros % 1000)
     }
 }
 
-// Ends a line, with the time in milliseconds where it is asked for.
-fn tell_time(rt: &HostRuntime, setting: Setting, time: Duration) -> io::Result<()> {
-    if !setting.timed {
-        return println!(rt; "");
+/// Ends a run of calls: a step that was refused is told, and what the system failed to do is an error.
+pub fn tell_end(rt: &impl Print, end: Result<(), Stopped>) -> io::Result<()> {
+    match end {
+        Err(Stopped::Refused(step, why)) => println!(rt;
+            "{}: refused, check {}",
+            step.name(),
+            why.number()
+        ),
+        Err(Stopped::Failed(error)) => Err(error),
+        Ok(()) => Ok(()),
     }
-    let micros = time.as_micros();
-    println!(rt; " {:>6}.{:03} ms", micros / 1000, micros % 1000)
-}
-
-fn tell_refusal(rt: &HostRuntime, call: &str, why: Refusal) -> io::Result<()> {
-    println!(rt; "{call}: refused, check {}", why.number())
 }

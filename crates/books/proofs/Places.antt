@@ -1,29 +1,19 @@
 -- Where a name stands among names.
-use Rattle.std.proofs.Common.{◌≡◌, ℕ, zero, suc, ◌+◌, ◌<◌, false, List, [], ◌∷◌, length, get_or, Some, None, sym, refl, ap, ◌∙◌, ⊎_elim, add-zero, arith}
+use Rattle.std.proofs.Common.{ℕ, List, [], length, get_or, Some, None, sym, ◌∙◌, subst, ⊎_elim, arith, nat_lt}
 use Rattle.std.specs.Str.{bytes_eq}
+use Rattle.std.specs.List.{position_or_len}
 use Rattle.std.proofs.lemmas.Slice.Eq.{bytes_eq-Decides}
-use Rattle.std.proofs.lemmas.Bool.{cases_Bool, cond-true, cond-false}
-use Rattle.books.specs.Names.{place_of}
+use Rattle.std.proofs.lemmas.List.Sums.{fails_before_first, passes_at_first}
+use Rattle.std.proofs.lemmas.Bool.{cases_Bool, cond-true, cond-false, ltb-true, ltb-false, false≢true}
+use Rattle.books.specs.Names.{place_of, Finds}
 
-different : (name n : List ℕ) → (name ≡ n → ⊥) → bytes_eq name n ≡ false
-different name n other =
-    ⊎_elim (λ yes_same. absurd (other ((bytes_eq-Decides name n).0 yes_same))) (λ e. e) (cases_Bool (bytes_eq name n))
-
-pub place_found : (names : List (List ℕ)) (name : List ℕ) (k j : ℕ) → j < length names → name ≡ get_or names j []
-    → ((i : ℕ) → i < j → name ≡ get_or names i [] → ⊥) → place_of name k names ≡ Some (k + j)
-unfolding place_of
-place_found [] name k j h e first = absurd (omega arith)
-place_found (n ∷ ns) name k zero h e first =
-    cond-true (bytes_eq name n) (Some k) (place_of name (k + 1) ns) ((bytes_eq-Decides name n).1 e) ∙ ap Some (sym (add-zero k))
-place_found (n ∷ ns) name k (suc j) h e first =
-    cond-false (bytes_eq name n) (Some k) (place_of name (k + 1) ns) (different name n (first 0 (omega arith)))
-    ∙ place_found ns name (k + 1) j (omega arith) e (λ i l. first (suc i) (omega arith))
-    ∙ ap Some (omega arith)
-
-pub place_none : (names : List (List ℕ)) (name : List ℕ) (k : ℕ)
-    → ((i : ℕ) → i < length names → name ≡ get_or names i [] → ⊥) → place_of name k names ≡ None
-unfolding place_of
-place_none [] name k none = refl
-place_none (n ∷ ns) name k none =
-    cond-false (bytes_eq name n) (Some k) (place_of name (k + 1) ns) (different name n (none 0 (omega arith)))
-    ∙ place_none ns name (k + 1) (λ i l. none (suc i) (omega arith))
+-- the place that is found is that of the bytes, and they are no name where none is found
+pub place_found : (names : List (List ℕ)) (name : List ℕ) → Finds names name (place_of name names)
+place_found names name =
+    let p : ℕ = position_or_len (bytes_eq name) names in
+    ⊎_elim
+    (λ e. subst (Finds names name) (sym (cond-true (nat_lt p (length names)) (Some p) None e))
+    (ltb-true p (length names) e, (bytes_eq-Decides name (get_or names p [])).0 (passes_at_first (bytes_eq name) names [] (ltb-true p (length names) e))))
+    (λ e. subst (Finds names name) (sym (cond-false (nat_lt p (length names)) (Some p) None e))
+    (λ k h same. false≢true (sym (fails_before_first (bytes_eq name) names k [] (omega (arith, ltb-false p (length names) e))) ∙ (bytes_eq-Decides name (get_or names k [])).1 same)))
+    (cases_Bool (nat_lt p (length names)))

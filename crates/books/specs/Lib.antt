@@ -4,3 +4,4 @@ pub mod Question
 pub mod WrittenRule
 pub mod Standard
 pub mod StandardRule
+pub mod Messages

@@ -75,4 +75,4 @@ abbrev pub names : List (List ℕ)
 names = codes "sub" ∷ codes "one" ∷ codes "suc" ∷ codes "les" ∷ codes "sum" ∷ codes "emp" ∷ []
 
 abbrev pub numbered : List ℕ → Option ℕ
-numbered name = place_of name 0 names
+numbered name = place_of name names

@@ -4,6 +4,8 @@ ghost use Rattle.words.specs.Automata.{accepted};
 ghost use Rattle.books.specs.Question.{Answers};
 
 use crate::book::{Book, Predicate};
+use std::error::Error;
+use std::fmt;
 use words::first_outside;
 
 /// Why a question has no answer.
@@ -14,6 +16,25 @@ pub enum NoAnswer {
     /// The column at this position has a bit for a place that the predicate does not have.
     NoColumn(usize),
 }
+
+impl fmt::Display for NoAnswer {
+    ghost use Rattle.std.specs.Prelude.{Some};
+    ghost use Rattle.books.specs.Messages.{no_answer_text};
+
+    ghost output = { λ why. Some (no_answer_text why) };
+
+    fn fmt<W: fmt::Write>(&self, f: &mut fmt::Formatter<W>) -> fmt::Result {
+        match self {
+            NoAnswer::NoPredicate => write!(f, "the book does not have the predicate"),
+            NoAnswer::NoColumn(i) => write!(
+                f,
+                "the column at position {i} has a bit for a place that the predicate does not have"
+            ),
+        }
+    }
+}
+
+impl Error for NoAnswer {}
 
 /// Runs a predicate of the book over a word of place columns. The answer is whether the predicate's relation
 /// holds of the finite sets that the word codes. It costs one step for each column.
@@ -33,9 +54,6 @@ pub fn ask<B: Book>(book: &B, p: Predicate, word: &[u8]) -> Result<bool, NoAnswe
 fn run<B: Book>(book: &B, p: Predicate, word: &[u8]) -> bool
     ensures { result ≡ accepted (B.Book.automaton book.now p) word.now }
 {
-    let mut state = book.start(p);
-    for column in word {
-        state = book.step(p, state, *column);
-    }
-    book.accepts(p, state)
+    let last = word.iter().fold(book.start(p), |state, column| book.step(p, state, *column));
+    book.accepts(p, last)
 }

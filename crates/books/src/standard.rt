@@ -7,23 +7,27 @@ ghost use Rattle.books.specs.StandardRule.{standard_rule};
 use crate::book::{Book, NamedBook, Predicate, State};
 use words::Rows;
 
-/// The book that every program has. It holds nothing: its automata are the rows below.
+/// The book that every program has. It holds nothing: what it knows is the table below.
 #[derive(Clone, Copy)]
 pub struct Standard;
 
 impl Standard {
+    /// The number of `sub`: every member of the first is in the second.
+    pub const SUB: Predicate = 0;
     /// The number of `one`: exactly one member.
     pub const ONE: Predicate = 1;
+    /// The number of `suc`: {p} and {p + 1}.
+    pub const SUC: Predicate = 2;
+    /// The number of `les`: {p} and {q} with p below q.
+    pub const LES: Predicate = 3;
     /// The number of `sum`: first + second = third.
     pub const SUM: Predicate = 4;
+    /// The number of `emp`: no member.
+    pub const EMP: Predicate = 5;
 }
-
-const COUNT: Predicate = 6;
 
 // Each run begins in the first row.
 const START: State = 0;
-
-const NAMES: [[u8; 3]; 6] = [*b"sub", *b"one", *b"suc", *b"les", *b"sum", *b"emp"];
 
 // A row for each state: the next states in the order of columns, then 1 where the state accepts.
 
@@ -75,49 +79,78 @@ const EMP: [u16; 6] = [
     1, 1, 0,
 ];
 
+// What the book knows of a predicate: its name, and its automaton as rows.
+#[derive(Clone, Copy)]
+struct Known {
+    name: [u8; 3],
+    rows: Rows<'static>,
+}
+
+// The predicates in the order of their numbers.
+const BOOK: [Known; 6] = [
+    Known {
+        name: *b"sub",
+        rows: Rows {
+            places: 2,
+            states: 2,
+            cells: &SUB,
+        },
+    },
+    Known {
+        name: *b"one",
+        rows: Rows {
+            places: 1,
+            states: 3,
+            cells: &ONE,
+        },
+    },
+    Known {
+        name: *b"suc",
+        rows: Rows {
+            places: 2,
+            states: 4,
+            cells: &SUC,
+        },
+    },
+    Known {
+        name: *b"les",
+        rows: Rows {
+            places: 2,
+            states: 4,
+            cells: &LES,
+        },
+    },
+    Known {
+        name: *b"sum",
+        rows: Rows {
+            places: 3,
+            states: 3,
+            cells: &SUM,
+        },
+    },
+    Known {
+        name: *b"emp",
+        rows: Rows {
+            places: 1,
+            states: 2,
+            cells: &EMP,
+        },
+    },
+];
+
+const NO_ROWS: Rows = Rows {
+    places: 0,
+    states: 0,
+    cells: &[],
+};
+
 // The rows of a predicate; none from 6 on.
 fn rows_of(p: Predicate) -> Rows<'static>
     ensures places { result.places ≡ places p }
     ensures states { result.states ≡ states p }
     ensures cells { result.cells.now ≡ rows p }
 {
-    match p {
-        0 => Rows {
-            places: 2,
-            states: 2,
-            cells: &SUB,
-        },
-        1 => Rows {
-            places: 1,
-            states: 3,
-            cells: &ONE,
-        },
-        2 => Rows {
-            places: 2,
-            states: 4,
-            cells: &SUC,
-        },
-        3 => Rows {
-            places: 2,
-            states: 4,
-            cells: &LES,
-        },
-        4 => Rows {
-            places: 3,
-            states: 3,
-            cells: &SUM,
-        },
-        5 => Rows {
-            places: 1,
-            states: 2,
-            cells: &EMP,
-        },
-        _ => Rows {
-            places: 0,
-            states: 0,
-            cells: &[],
-        },
-    }
+    BOOK.get(usize::from(p)).map_or(NO_ROWS, |known| known.rows)
 }
 
 impl Book for Standard {
@@ -130,7 +163,7 @@ impl Book for Standard {
     ghost rule = { λ _. standard_rule };
 
     fn count(&self) -> Predicate {
-        COUNT
+        BOOK.len() as Predicate
     }
 
     fn places(&self, p: Predicate) -> u8 {
@@ -163,12 +196,8 @@ impl NamedBook for Standard {
         ensures named { OnSome result (IsName name.now) }
         ensures exact { Finds names name.now result }
     {
-        for p in 0..COUNT {
-            let known: &[u8] = &NAMES[usize::from(p)];
-            if name == known {
-                return Some(p);
-            }
-        }
-        None
+        BOOK.iter()
+            .position(|known| name == known.name.as_slice())
+            .map(|at| at as Predicate)
     }
 }

@@ -1,84 +1,68 @@
--- Bits of a number: one more of them, those that two numbers share, and which is the lowest.
-use Rattle.std.proofs.Common.{◌≡◌, ℕ, zero, suc, ◌/◌, ◌%◌, ◌^◌, ◌<◌, ◌≤◌, true, not, eqb, ◌⊎◌, ◌↔◌, Decides, sym, refl, ap, ◌∙◌, subst, inl, inr, ⊎_elim, lt_of_lt_of_le, pow-suc, arith, pow_mono}
-use lib.Arith.{bin_ind}
+-- Bits of a number: one more of them, one less, and those that two numbers share.
+use Rattle.std.proofs.Common.{◌≡◌, ℕ, ◌*◌, ◌%◌, ◌^◌, ◌<◌, min, true, false, not, eqb, ⊎_elim, Decides, sym, ◌∙◌, ap, arith}
 use lib.Bits.{bit_and, bit_or}
-use Rattle.std.proofs.lemmas.Nat.{or_shr, or_mod, and_shr, and_mod}
-use Rattle.std.proofs.lemmas.Bool.{cases_eq, cases_lt, eqb-false, ne_eqb, not-true, not_from_false}
+use Rattle.std.specs.Int.{w64, bit_not, trailing_zeros}
+use Rattle.std.proofs.lemmas.Bool.{cases_eq, both_ways, eq-eqb, eqb-true, eqb-false, ne_eqb, not-true}
+use Rattle.std.proofs.lemmas.Bool.Decides.{nat_tests}
+use Rattle.std.proofs.lemmas.Nat.{and_le_l}
+use Rattle.std.proofs.lemmas.Nat.Bits.{bit_at_or, bit_at_and, bit_at-pow_same, bit_at-pow_other, bit_at-trailing_zeros, bit_at_clear_same, bit_at_clear_other}
 use Rattle.words.specs.Sets.{bit, Member}
-use Rattle.words.proofs.Bits.{bit_of_zero, bit_past}
+use Rattle.hiding.specs.StateSets.{has_bit}
+use Rattle.words.proofs.Bits.{bit_small, bit_is, bit_of_zero}
 
-no_one : ◌≡◌ {A = ℕ} 0 1 → ⊥
-no_one e = omega arith
+-- one bit more
+pub bit_put_here : (n k : ℕ) → bit k (bit_or n (2 ^ k)) ≡ 1
+bit_put_here n k = omega (arith, bit_is k (bit_or n (2 ^ k)), bit_at_or n (2 ^ k) k, bit_at-pow_same k, bit_is k n, bit_small k n)
 
--- ---- one or the other
+pub bit_put_elsewhere : (n k i : ℕ) → (i ≡ k → ⊥) → bit i (bit_or n (2 ^ k)) ≡ bit i n
+bit_put_elsewhere n k i other = omega (arith, bit_is i (bit_or n (2 ^ k)), bit_at_or n (2 ^ k) i, bit_at-pow_other k i other, bit_is i n)
 
-or_small : (x y : ℕ) → x < 2 → y < 2 → (bit_or x y ≡ 1) ↔ ((x ≡ 1) ⊎ (y ≡ 1))
-or_small zero zero h k = ((λ e. inl e), ⊎_elim (λ e. e) (λ e. e))
-or_small zero (suc zero) h k = ((λ _. inr refl), (λ _. refl))
-or_small (suc zero) zero h k = ((λ _. inl refl), (λ _. refl))
-or_small (suc zero) (suc zero) h k = ((λ _. inl refl), (λ _. refl))
-or_small zero (suc (suc y)) h k = absurd (omega arith)
-or_small (suc zero) (suc (suc y)) h k = absurd (omega arith)
-or_small (suc (suc x)) y h k = absurd (omega arith)
+-- ---- the lowest bit of a word of 64 bits, and the word without it
 
-pub or_member : (p a b : ℕ) → Member p (bit_or a b) ↔ (Member p a ⊎ Member p b)
-or_member zero a b =
-    subst (λ x. (x ≡ 1) ↔ (Member 0 a ⊎ Member 0 b)) (sym (or_mod a b 1)) (or_small (a % 2) (b % 2) (omega arith) (omega arith))
-or_member (suc p) a b =
-    subst (λ x. Member p x ↔ (Member p (a / 2) ⊎ Member p (b / 2))) (sym (or_shr a b 1)) (or_member p (a / 2) (b / 2))
+abbrev pub lowest : ℕ → ℕ
+lowest word = trailing_zeros w64 word
 
--- ---- both
+abbrev pub cleared : ℕ → ℕ
+cleared word = bit_and word (bit_not w64 (1 * 2 ^ lowest word % 2 ^ 64))
 
-and_small : (x y : ℕ) → x < 2 → y < 2 → (bit_and x y ≡ 1) ↔ ((x ≡ 1) × (y ≡ 1))
-and_small zero y h k = ((λ e. absurd (no_one e)), (λ e. absurd (no_one e.0)))
-and_small (suc zero) zero h k = ((λ e. absurd (no_one e)), (λ e. absurd (no_one e.1)))
-and_small (suc zero) (suc zero) h k = ((λ _. (refl, refl)), (λ _. refl))
-and_small (suc zero) (suc (suc y)) h k = absurd (omega arith)
-and_small (suc (suc x)) y h k = absurd (omega arith)
+-- the place of the lowest bit
+module _ (word : ℕ) (some : word ≡ 0 → ⊥) (small : word < 2 ^ 64) where
+  pub lowest_below : lowest word < 64
+  lowest_below = (bit_at-trailing_zeros w64 word (omega arith) small).0
 
-pub and_member : (p a b : ℕ) → Member p (bit_and a b) ↔ (Member p a × Member p b)
-and_member zero a b =
-    subst (λ x. (x ≡ 1) ↔ (Member 0 a × Member 0 b)) (sym (and_mod a b 1)) (and_small (a % 2) (b % 2) (omega arith) (omega arith))
-and_member (suc p) a b =
-    subst (λ x. Member p x ↔ (Member p (a / 2) × Member p (b / 2))) (sym (and_shr a b 1)) (and_member p (a / 2) (b / 2))
+  pub has_lowest : has_bit word (lowest word) ≡ true
+  has_lowest = eq-eqb _ 1 (bit_is (lowest word) word ∙ (bit_at-trailing_zeros w64 word (omega arith) small).1)
 
--- a number that is not 0 has a member
-pub some_member : (s : ℕ) → (s ≡ 0 → ⊥) → (p : ℕ) × Member p s
-some_member = bin_ind (λ s. (s ≡ 0 → ⊥) → (p : ℕ) × Member p s) (λ none. absurd (none refl))
-    (λ s rest some. ⊎_elim
-    (λ one. (0, one))
-    (λ even. let more = rest (λ e. some (omega arith)) in (suc more.0, more.1))
-    (cases_eq (s % 2) 1))
+  pub none_lower : (b : ℕ) → b < lowest word → has_bit word b ≡ false
+  none_lower b l = ne_eqb _ 1 (omega (arith, bit_is b word, (bit_at-trailing_zeros w64 word (omega arith) small).2 b l))
 
-pub member_below : (k p s : ℕ) → s < 2 ^ k → Member p s → p < k
-member_below k p s small here = ⊎_elim (λ l. l) (λ l. absurd (past l)) (cases_lt p k)
-  where
-    past : k ≤ p → ⊥
-    past l = no_one (sym (bit_past p s (lt_of_lt_of_le small (pow_mono l))) ∙ here)
+  pub lowest_gone : has_bit (cleared word) (lowest word) ≡ false
+  lowest_gone = ne_eqb _ 1 (omega (arith, bit_is (lowest word) (cleared word), bit_at_clear_same w64 word (lowest word) lowest_below))
 
--- ---- a power of two
+  pub others_stay : (b : ℕ) → b < 64 → (b ≡ lowest word → ⊥) → has_bit (cleared word) b ≡ has_bit word b
+  others_stay b l other =
+      ap (λ x. eqb x 1) (bit_is b (cleared word) ∙ bit_at_clear_other w64 word (lowest word) lowest_below b l other ∙ sym (bit_is b word))
 
-pub power_member : (p q : ℕ) → Member p (2 ^ q) ↔ (p ≡ q)
-power_member zero zero = ((λ _. refl), (λ _. refl))
-power_member zero (suc q) = ((λ e. absurd (omega (arith, pow-suc 2 q))), (λ e. absurd (omega arith)))
-power_member (suc p) zero = ((λ e. absurd (no_one (sym (bit_of_zero p) ∙ e))), (λ e. absurd (omega arith)))
-power_member (suc p) (suc q) =
-    let half : 2 ^ suc q / 2 ≡ 2 ^ q = omega (arith, pow-suc 2 q) in
-    let rest = power_member p q in
-    ((λ e. ap suc (rest.0 (sym (ap (bit p) half) ∙ e))), (λ e. ap (bit p) half ∙ rest.1 (omega arith)))
+  pub cleared_less : cleared word < word
+  cleared_less = ⊎_elim
+      (λ e. absurd (both_ways _ lowest_gone (ap (λ w. has_bit w (lowest word)) e ∙ has_lowest)))
+      (λ other. omega (arith, other, and_le_l word (bit_not w64 (1 * 2 ^ lowest word % 2 ^ 64))))
+      (cases_eq (cleared word) word)
 
 -- ---- two words that share a bit
 
-pub words_share : (a b : ℕ) → a < 2 ^ 64 → Decides (not (eqb (bit_and a b) 0)) ((p : ℕ) × (p < 64) × Member p a × Member p b)
-words_share a b small = (to, from)
-  where
-    to : not (eqb (bit_and a b) 0) ≡ true → (p : ℕ) × (p < 64) × Member p a × Member p b
-    to t =
-        let m = some_member (bit_and a b) (eqb-false (bit_and a b) 0 (not-true (eqb (bit_and a b) 0) t)) in
-        let both = (and_member m.0 a b).0 m.1 in
-        (m.0, member_below 64 m.0 a small both.0, both.0, both.1)
+bit_of_both : (a b p : ℕ) → bit p (bit_and a b) ≡ min (bit p a) (bit p b)
+bit_of_both a b p = omega (arith, bit_is p (bit_and a b), bit_at_and a b p, bit_is p a, bit_is p b)
 
-    from : ((p : ℕ) × (p < 64) × Member p a × Member p b) → not (eqb (bit_and a b) 0) ≡ true
-    from m =
-        not_from_false (eqb (bit_and a b) 0) (ne_eqb (bit_and a b) 0
-        (λ e. no_one (sym (bit_of_zero m.0) ∙ ap (bit m.0) (sym e) ∙ (and_member m.0 a b).1 (m.2, m.3))))
+pub words_share : (a b : ℕ) → a < 2 ^ 64 → Decides (not (eqb (bit_and a b) 0)) ((p : ℕ) × (p < 64) × Member p a × Member p b)
+words_share a b small = (
+  (λ t.
+      let some = eqb-false (bit_and a b) 0 (not-true (eqb (bit_and a b) 0) t) in
+      let fits : bit_and a b < 2 ^ 64 = omega (arith, and_le_l a b) in
+      let p : ℕ = lowest (bit_and a b) in
+      let here = eqb-true (bit p (bit_and a b)) 1 (has_lowest (bit_and a b) some fits) in
+      let small_a = bit_small p a in
+      let small_b = bit_small p b in
+      (p, lowest_below (bit_and a b) some fits, omega (arith, bit_of_both a b p), omega (arith, bit_of_both a b p))),
+  (λ m. grind (arith, nat_tests, bit_of_both a b m.0, bit_of_zero m.0, m.2, m.3)),
+)

@@ -1,88 +1,50 @@
--- A walk over the bits of a word by its lowest bit, which is then cleared; and what a walk puts into a set.
-use Rattle.std.proofs.Common.{◌≡◌, ℕ, zero, suc, ◌+◌, ◌-◌, ◌*◌, ◌/◌, ◌%◌, ◌^◌, ◌<◌, cond, eqb, List, get_or, sym, refl, ap, ◌∙◌, ap₂, ⊎_elim, pow-suc, add-one, arith}
-use lib.Bits.{bit_and, and_self, and_zero_l}
-use lib.Count.{count_trailing_zeros, under}
-use Rattle.std.proofs.lemmas.Bool.{cases_eq}
-use Rattle.std.proofs.lemmas.Nat.{and_mod, and_shr}
-use Rattle.hiding.specs.Collected.{walked, walked_words}
+-- A walk over the numbers below k that pass a test.
+use Rattle.std.proofs.Common.{◌≡◌, ℕ, zero, suc, ◌+◌, ◌^◌, ◌<◌, Bool, true, false, cond, refl, sym, ap, ◌∙◌, ap₂, ⊎_elim, add-zero, add-suc, arith}
+use Rattle.std.proofs.lemmas.Bool.{cases_eq, ne_eqb, cond-true, cond-false}
+use Rattle.words.specs.Sets.{bit}
+use Rattle.words.proofs.Bits.{bit_of_zero}
+use Rattle.hiding.specs.StateSets.{has_bit}
+use Rattle.hiding.specs.Collected.{walked}
+use Rattle.hiding.proofs.Bitwise.{lowest, cleared, lowest_below, has_lowest, none_lower, lowest_gone, others_stay}
 
--- ---- the lowest bit
-
--- an odd word loses its lowest bit alone
-cleared_odd : (w : ℕ) → w % 2 ≡ 1 → bit_and w (w - 1) / 2 ≡ w / 2
-cleared_odd w odd =
-    let half : (w - 1) / 2 ≡ w / 2 = omega arith in
-    and_shr w (w - 1) 1 ∙ ap (bit_and (w / 2)) half ∙ and_self (w / 2)
-
-cleared_odd_low : (w : ℕ) → w % 2 ≡ 1 → bit_and w (w - 1) % 2 ≡ 0
-cleared_odd_low w odd =
-    let low : (w - 1) % 2 ≡ 0 = omega arith in
-    and_mod w (w - 1) 1 ∙ ap₂ bit_and odd low
-
--- in an even word the lowest bit is that of its half
-cleared_even : (w : ℕ) → w % 2 ≡ 0 → (w ≡ 0 → ⊥) → bit_and w (w - 1) / 2 ≡ bit_and (w / 2) (w / 2 - 1)
-cleared_even w even some =
-    let half : (w - 1) / 2 ≡ w / 2 - 1 = omega arith in
-    and_shr w (w - 1) 1 ∙ ap (bit_and (w / 2)) half
-
-cleared_even_low : (w : ℕ) → w % 2 ≡ 0 → bit_and w (w - 1) % 2 ≡ 0
-cleared_even_low w even = and_mod w (w - 1) 1 ∙ ap (λ x. bit_and x ((w - 1) % 2)) even ∙ and_zero_l ((w - 1) % 2)
-
-trailing_odd : (k w : ℕ) → w % 2 ≡ 1 → count_trailing_zeros (suc k) w ≡ 0
-unfolding count_trailing_zeros
-trailing_odd k w odd = ap (λ x. under x (count_trailing_zeros k (w / 2))) odd
-
-trailing_even : (k w : ℕ) → w % 2 ≡ 0 → count_trailing_zeros (suc k) w ≡ suc (count_trailing_zeros k (w / 2))
-unfolding count_trailing_zeros
-trailing_even k w even = ap (λ x. under x (count_trailing_zeros k (w / 2))) even
-
--- ---- the walk
-
-module _ {S : Type 0} (act : ℕ → S → S) where
-  pub walked_zero : (k base : ℕ) (s : S) → walked act k base 0 s ≡ s
+module _ {S : Type 0} where
+  walked_none : (act : ℕ → S → S) (passes : ℕ → Bool) (k : ℕ) (s : S) → ((i : ℕ) → i < k → passes i ≡ false) → walked act passes k s ≡ s
   unfolding walked
-  walked_zero zero base s = refl
-  walked_zero (suc k) base s = walked_zero k (base + 1) s
+  walked_none act passes zero s none = refl
+  walked_none act passes (suc k) s none =
+      cond-false (passes k) _ _ (none k (omega arith)) ∙ walked_none act passes k s (λ i l. none i (omega arith))
 
-  walked_odd : (k base w : ℕ) (s : S) → w % 2 ≡ 1 → walked act (suc k) base w s ≡ walked act k (base + 1) (w / 2) (act base s)
+  -- the lowest number that passes first, and then the others
+  pub walked_first : (act : ℕ → S → S) (passes others : ℕ → Bool) (b k : ℕ) (s : S) → b < k → passes b ≡ true → others b ≡ false
+      → ((i : ℕ) → i < b → passes i ≡ false) → ((i : ℕ) → i < k → (i ≡ b → ⊥) → others i ≡ passes i) → walked act others k (act b s) ≡ walked act passes k s
   unfolding walked
-  walked_odd k base w s odd = ap (λ x. walked act k (base + 1) (w / 2) (cond (eqb x 1) (act base s) s)) odd
+  walked_first act passes others b zero s l here gone none same = absurd (omega arith)
+  walked_first act passes others b (suc k) s l here gone none same = ⊎_elim
+      (λ e.
+      cond-false (others k) _ _ (ap others e ∙ gone)
+      ∙ walked_none act others k (act b s) (λ i h. same i (omega arith) (omega (arith, e, h)) ∙ none i (omega (arith, e, h)))
+      ∙ sym (cond-true (passes k) _ _ (ap passes e ∙ here) ∙ ap₂ act e (walked_none act passes k s (λ i h. none i (omega (arith, e, h))))))
+      (λ other.
+      let rest = walked_first act passes others b k s (omega (arith, l, other)) here gone none (λ i h. same i (omega arith)) in
+      ap₂ (λ p w. cond p (act k w) w) (same k (omega arith) other) rest)
+      (cases_eq k b)
 
-  walked_even : (k base w : ℕ) (s : S) → w % 2 ≡ 0 → walked act (suc k) base w s ≡ walked act k (base + 1) (w / 2) s
+  -- the numbers below j, and then k from j on
+  pub walked_more : (act : ℕ → S → S) (passes part : ℕ → Bool) (j k : ℕ) (s : S) → ((i : ℕ) → i < k → part i ≡ passes (j + i))
+      → walked (λ i. act (j + i)) part k (walked act passes j s) ≡ walked act passes (j + k) s
   unfolding walked
-  walked_even k base w s even = ap (λ x. walked act k (base + 1) (w / 2) (cond (eqb x 1) (act base s) s)) even
+  walked_more act passes part j zero s same = rw add-zero refl
+  walked_more act passes part j (suc k) s same =
+      rw add-suc (ap₂ (λ p w. cond p (act (j + k) w) w) (same k (omega arith)) (walked_more act passes part j k s (λ i h. same i (omega arith))))
 
-  -- the lowest bit first, and then the others
-  pub walked_lowest : (k base w : ℕ) (s : S) → (w ≡ 0 → ⊥) → w < 2 ^ k
-      → walked act k base (bit_and w (w - 1)) (act (base + count_trailing_zeros k w) s) ≡ walked act k base w s
-  unfolding walked
-  walked_lowest zero base w s some small = absurd (some (omega arith))
-  walked_lowest (suc k) base w s some small = ⊎_elim by_odd (λ other. by_even (omega arith) (walked_lowest k (base + 1) (w / 2) s (λ e. some (omega arith)) (omega (arith, pow-suc 2 k))))
-      (cases_eq (w % 2) 1)
-    where
-      by_odd : w % 2 ≡ 1 → walked act (suc k) base (bit_and w (w - 1)) (act (base + count_trailing_zeros (suc k) w) s) ≡ walked act (suc k) base w s
-      by_odd odd =
-          let here : base + count_trailing_zeros (suc k) w ≡ base = omega (arith, trailing_odd k w odd) in
-          ap (λ b. walked act (suc k) base (bit_and w (w - 1)) (act b s)) here
-          ∙ walked_even k base (bit_and w (w - 1)) (act base s) (cleared_odd_low w odd)
-          ∙ ap (λ x. walked act k (base + 1) x (act base s)) (cleared_odd w odd)
-          ∙ sym (walked_odd k base w s odd)
+-- a walk over the bits of a word: first by its lowest bit, and then over the others
+pub walked_bits : {S : Type 0} (act : ℕ → S → S) (word : ℕ) (s s' : S) → (word ≡ 0 → ⊥) → word < 2 ^ 64 → s' ≡ act (lowest word) s
+    → walked act (has_bit (cleared word)) 64 s' ≡ walked act (has_bit word) 64 s
+walked_bits act word s s' some small is =
+    ap (walked act (has_bit (cleared word)) 64) is
+    ∙ walked_first act (has_bit word) (has_bit (cleared word)) (lowest word) 64 s (lowest_below word some small) (has_lowest word some small)
+    (lowest_gone word some small) (none_lower word some small) (others_stay word some small)
 
-      by_even : w % 2 ≡ 0
-          → walked act k (base + 1) (bit_and (w / 2) (w / 2 - 1)) (act (base + 1 + count_trailing_zeros k (w / 2)) s) ≡ walked act k (base + 1) (w / 2) s
-          → walked act (suc k) base (bit_and w (w - 1)) (act (base + count_trailing_zeros (suc k) w) s) ≡ walked act (suc k) base w s
-      by_even even rest =
-          let there : base + count_trailing_zeros (suc k) w ≡ base + 1 + count_trailing_zeros k (w / 2) = omega (arith, trailing_even k w even) in
-          ap (λ b. walked act (suc k) base (bit_and w (w - 1)) (act b s)) there
-          ∙ walked_even k base (bit_and w (w - 1)) (act (base + 1 + count_trailing_zeros k (w / 2)) s) (cleared_even_low w even)
-          ∙ ap (λ x. walked act k (base + 1) x (act (base + 1 + count_trailing_zeros k (w / 2)) s)) (cleared_even w even some)
-          ∙ rest
-          ∙ sym (walked_even k base w s even)
-
-  pub words_none : (words : List ℕ) (s : S) → walked_words act words 0 s ≡ s
-  unfolding walked_words
-  words_none words s = refl
-
-  pub words_more : (words : List ℕ) (k : ℕ) (s : S) → walked_words act words (k + 1) s ≡ walked act 64 (k * 64) (get_or words k 0) (walked_words act words k s)
-  unfolding walked_words
-  words_more words k s = ap (λ j. walked_words act words j s) (add-one k)
+pub walked_no_bits : {S : Type 0} (act : ℕ → S → S) (word : ℕ) (s : S) → word ≡ 0 → walked act (has_bit word) 64 s ≡ s
+walked_no_bits act word s none =
+    walked_none act (has_bit word) 64 s (λ b l. ne_eqb (bit b word) 1 (omega (arith, ap (bit b) none, bit_of_zero b)))

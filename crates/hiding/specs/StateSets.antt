@@ -20,9 +20,13 @@ Has s q = (q < 512) × Member (q % 64) (word_for s q)
 abbrev pub Meet : StateSet → StateSet → Type 0
 Meet s t = (q : ℕ) × Has s q × Has t q
 
+-- whether bit b of a word is 1
+abbrev pub has_bit : ℕ → ℕ → Bool
+has_bit word b = bit b word == 1
+
 -- the same by a test, and for the states below k
 abbrev pub is_in : StateSet → ℕ → Bool
-is_in s q = nat_lt q 512 && bit (q % 64) (word_for s q) == 1
+is_in s q = nat_lt q 512 && has_bit (word_for s q) (q % 64)
 
 unfoldable pub meeting : StateSet → StateSet → ℕ → Bool
 meeting s t zero = false

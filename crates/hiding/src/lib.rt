@@ -2,6 +2,7 @@
 #![tactic(auto)]
 
 mod closing;
+mod hidden_rows;
 mod hide;
 mod state_set;
 mod subsets;
@@ -13,7 +14,7 @@ pub use state_set::{STATES, StateSet};
 #[cfg(test)]
 mod tests {
     use super::*;
-    use tables::{Counts, Unexplored};
+    use tables::{Counts, Memory, Unexplored};
     use words::Rows;
 
     // First + second = third: no carry; a carry of one; the third was wrong.
@@ -31,36 +32,21 @@ mod tests {
             states: 3,
             cells: &SUM,
         };
-        let mut records = [StateSet::empty(); 3];
-        let mut links = [9u16; 24];
-        let mut spare = [9u16; 27];
+        let mut memory = Memory {
+            records: &mut [StateSet::empty(); 3],
+            links: &mut [9; 24],
+            rows: &mut [9; 27],
+        };
         let mut table = [9u16; 27];
-        let counts = tabulate_hidden(
-            &rows,
-            hidden,
-            budget,
-            &mut records,
-            &mut links,
-            &mut spare,
-            &mut table,
-        );
+        let counts = tabulate_hidden(&rows, hidden, budget, &mut memory, &mut table);
         (counts, table)
-    }
-
-    // The counts, or none where there are too many states or no room.
-    fn numbers(counts: Result<Counts, Unexplored>) -> (usize, usize) {
-        match counts {
-            Ok(counts) => (counts.met, counts.kept),
-            Err(Unexplored::TooMany) => (0, 1),
-            Err(Unexplored::NoRoom) => (0, 0),
-        }
     }
 
     // Any two sets have a sum, which may go past the end of the word.
     #[test]
     fn sum_is_there(rt: HostRuntime) {
         let (counts, table) = hide(2, 3);
-        assert!(rt; numbers(counts) == (3, 1));
+        assert_eq!(rt; counts, Ok(Counts { met: 3, kept: 1 }));
         assert!(rt; table[..10] == [0, 0, 0, 0, 0, 0, 0, 0, 1, 9]);
     }
 
@@ -68,10 +54,10 @@ mod tests {
     #[test]
     fn refusals(rt: HostRuntime) {
         let (short, table) = hide(2, 2);
-        assert!(rt; numbers(short) == (0, 1));
+        assert_eq!(rt; short, Err(Unexplored::TooMany));
         assert!(rt; table == [9; 27]);
         let (outside, table) = hide(3, 3);
-        assert!(rt; numbers(outside) == (0, 0));
+        assert_eq!(rt; outside, Err(Unexplored::NoRoom));
         assert!(rt; table == [9; 27]);
     }
 }

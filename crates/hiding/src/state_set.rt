@@ -1,12 +1,12 @@
 //! Sets of table states, as bits.
-ghost use Rattle.std.specs.Prelude.{◌≡◌, ℕ, ◌<◌, Decides, slice_index};
+ghost use Rattle.std.specs.Prelude.{◌≡◌, ℕ, ◌<◌, Decides};
 ghost use Rattle.words.specs.Sets.{Member};
 ghost use Rattle.hiding.specs.StateSets.{Has, Meet, no_states, inserted};
 
 use words::is_member;
 
 /// A set of states below 512: state q is bit q % 64 of word q / 64.
-#[derive(Clone, Copy, Drop)]
+#[derive(Clone, Copy, PartialEq, Eq, Debug, Drop)]
 pub struct StateSet {
     words: [u64; 8],
 }
@@ -15,6 +15,7 @@ pub struct StateSet {
 pub const STATES: u16 = 512;
 
 // Whether two words have a bit in common.
+#[tactic(auto, using(crate::proofs::Bitwise::words_share))]
 fn words_meet(a: u64, b: u64) -> bool
     ensures { Decides result ((p : ℕ) × (p < 64) × Member p a × Member p b) }
 {
@@ -29,22 +30,18 @@ impl StateSet {
         StateSet { words: [0; 8] }
     }
 
-    /// Word k of the set, whose bit b is the state 64 * k + b; there are 8.
-    pub(crate) fn word(&self, k: usize) -> u64
-        requires { k < 8 }
-        ensures { result ≡ slice_index self.now.words k }
+    /// The words of the set: bit b of word k is the state 64 * k + b.
+    pub(crate) fn words(&self) -> &[u64; 8]
+        ensures { result.now ≡ self.now.words }
     {
-        self.words[k]
+        &self.words
     }
 
     /// Whether a state is in the set; none from 512 on is.
     pub fn contains(&self, state: u16) -> bool
         ensures { Decides result (Has self.now state) }
     {
-        if state >= STATES {
-            return false;
-        }
-        is_member(self.words[usize::from(state / 64)], usize::from(state % 64))
+        state < STATES && is_member(self.words[usize::from(state / 64)], usize::from(state % 64))
     }
 
     /// Puts a state into the set; one from 512 on changes nothing.
@@ -60,18 +57,9 @@ impl StateSet {
     pub fn meets(&self, other: &StateSet) -> bool
         ensures { Decides result (Meet self.now other.now) }
     {
-        for k in 0..8 {
-            if words_meet(self.words[k], other.words[k]) {
-                return true;
-            }
-        }
-        false
-    }
-
-    /// Whether the two sets are equal.
-    pub fn equals(&self, other: &StateSet) -> bool
-        ensures { Decides result (self.now ≡ other.now) }
-    {
-        self.words == other.words
+        self.words
+            .iter()
+            .zip(&other.words)
+            .any(|(a, b)| words_meet(*a, *b))
     }
 }

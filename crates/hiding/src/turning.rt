@@ -2,8 +2,6 @@
 ghost use Rattle.std.specs.Prelude.{◌≡◌, ◌<◌};
 ghost use Rattle.words.specs.Hiding.{turned};
 
-use words::in_set;
-
 /// The place of a set's bit in a column.
 #[derive(Clone, Copy)]
 pub struct Place {
@@ -13,24 +11,18 @@ pub struct Place {
 
 impl Place {
     /// The column with this bit turned to 0.
+    #[tactic(auto, using(crate::proofs::TurnedBits::turned_off))]
     pub fn off(&self, column: u8) -> u8
         ensures { result ≡ turned self.now.set 0 column }
     {
-        if in_set(column, self.set) {
-            column - (1 << self.set)
-        } else {
-            column
-        }
+        column & !(1 << self.set)
     }
 
     /// The column with this bit turned to 1.
+    #[tactic(auto, using(crate::proofs::TurnedBits::turned_on))]
     pub fn on(&self, column: u8) -> u8
         ensures { result ≡ turned self.now.set 1 column }
     {
-        if in_set(column, self.set) {
-            column
-        } else {
-            column + (1 << self.set)
-        }
+        column | (1 << self.set)
     }
 }

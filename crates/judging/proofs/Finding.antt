@@ -1,62 +1,91 @@
 -- The first column and the first pair that lead to a state, found by looking at all of them in order.
-use Rattle.std.proofs.Common.{◌≡◌, ℕ, ◌%◌, ◌^◌, ◌<◌, ◌≤◌, ◌⊎◌, Some, None, sym, ap, ◌∙◌, subst, inl, inr, lt_of_lt_of_le, mod-eq_of_lt, pow_mono}
+use Rattle.std.proofs.Common.{◌≡◌, ◌≢◌, ℕ, ◌%◌, ◌^◌, ◌<◌, ◌≤◌, Bool, ◌⊎◌, List, map, length, get_or, Some, None, Option, MatchOption, sym, ap, ◌∙◌, subst, inl, inr, arith, mod-eq_of_lt, pow_mono}
+use Rattle.std.specs.List.{range_with_len, AllWithin, HoldsAt}
 use Rattle.std.proofs.lemmas.Bool.{cases_order}
+use Rattle.std.proofs.lemmas.List.FromFn.{length-map-range_with_len, get_or-map-range_with_len}
 use Rattle.words.specs.Automata.{Automaton}
-use Rattle.words.specs.Order.{Before, PairNotAfter, nth_column, column_place}
+use Rattle.words.specs.Order.{Before, nth_column, column_place}
 use Rattle.words.proofs.Orders.{nth_below, nth_ordered, nth_place, place_below}
 use Rattle.judging.specs.Walk.{LeadsTo, FirstColumn, FirstPair}
+use Rattle.judging.specs.Lowest.{LowestState}
 use Rattle.judging.specs.declared.walk.Link.{Link}
+
+-- ---- the states
+
+module _ (a : Automaton) (b : Bool) where
+  pub lowest_found : (found : Option ℕ)
+      → MatchOption found ((s : ℕ) → 0 ≤ s → s < a.states → a.accepts s ≢ b)
+      (λ j. (0 ≤ j) × (j < a.states) × (a.accepts j ≡ b) × ((s : ℕ) → 0 ≤ s → s < j → a.accepts s ≢ b))
+      → LowestState a b found
+  lowest_found None none = λ s low. none s (omega arith) low
+  lowest_found (Some j) (from, low, is, none) = (low, is, λ s below. none s (omega arith) below)
 
 -- ---- the columns of one row
 
-module _ (a : Automaton) (j r : ℕ) where
-  -- none of the first k columns leads to j
-  abbrev pub NotBy : ℕ → Type 0
-  NotBy k = (i : ℕ) → i < k → a.step r (nth_column a.places i) ≡ j → ⊥
+module _ (a : Automaton) (few : a.places ≤ 8) (j r : ℕ) where
+  -- the first n columns in their order
+  abbrev pub in_order : ℕ → List ℕ
+  in_order n = map (λ k. nth_column a.places (k % 256)) (range_with_len 0 n)
 
-  pub column_none : NotBy (2 ^ a.places) → FirstColumn a j r None
-  column_none none c leads =
-      none (column_place a.places c) (place_below a.places c leads.0) (ap (a.step r) (nth_place a.places c leads.0) ∙ leads.1)
+  -- a column that leads elsewhere
+  abbrev pub Other : ℕ → Type 0
+  Other c = a.step r c ≢ j
 
-  module _ (k c : ℕ) (few : a.places ≤ 8) (left : k < 2 ^ a.places) (is : c ≡ nth_column a.places (k % 256)) where
-    column_is : c ≡ nth_column a.places k
-    column_is = is ∙ ap (nth_column a.places) (mod-eq_of_lt (lt_of_lt_of_le left (pow_mono few)))
+  module _ (n : ℕ) (all : n ≡ 2 ^ a.places) where
+    reads : (k d : ℕ) → k < n → get_or (in_order n) k d ≡ nth_column a.places k
+    reads k d low =
+        let small : k % 256 ≡ k = mod-eq_of_lt (omega (arith, all, pow_mono few)) in
+        grind (arith, get_or-map-range_with_len (λ k. nth_column a.places (k % 256)) 0 n k k d low (omega arith))
 
-    pub column_missed : (a.step r c ≡ j → ⊥) → a.step r (nth_column a.places k) ≡ j → ⊥
-    column_missed other leads = other (ap (a.step r) column_is ∙ leads)
+    -- of those before the k-th, none leads to j
+    passed : (k : ℕ) → k ≤ n → AllWithin Other (in_order n) 0 k → (d : ℕ) → LeadsTo a j r d → column_place a.places d < k → ⊥
+    passed k within none d leads low =
+        none (column_place a.places d) 0 (omega arith) low
+        (ap (a.step r) (reads (column_place a.places d) 0 (omega arith) ∙ nth_place a.places d leads.0) ∙ leads.1)
 
-    pub column_found : a.step r c ≡ j → NotBy k → FirstColumn a j r (Some c)
-    column_found leads none = ((subst (λ x. x < 2 ^ a.places) (sym column_is) (nth_below a.places k left), leads), other)
+    many : length (in_order n) ≡ n
+    many = length-map-range_with_len (λ k. nth_column a.places (k % 256)) 0 n
+
+    pub first_column : (found : Option ℕ)
+        → MatchOption found (AllWithin Other (in_order n) 0 (length (in_order n)))
+        (λ c. (a.step r c ≡ j) × (i : ℕ) × (i < length (in_order n)) × HoldsAt (λ d. d ≡ c) (in_order n) i × AllWithin Other (in_order n) 0 i)
+        → FirstColumn a j r found
+    first_column None none = λ c leads.
+        passed (length (in_order n)) (omega (arith, many)) none c leads (omega (arith, many, all, place_below a.places c leads.0))
+    first_column (Some c) (leads, i, low, at, none) = ((subst (λ x. x < 2 ^ a.places) is (nth_below a.places i left), leads), later)
       where
-        other : (d : ℕ) → LeadsTo a j r d → Before c d ⊎ (c ≡ d)
-        other d there = go (cases_order (column_place a.places d) k)
-          where
-            same : nth_column a.places (column_place a.places d) ≡ d
-            same = nth_place a.places d there.0
+        left : i < 2 ^ a.places
+        left = omega (arith, low, many, all)
 
-            go : (column_place a.places d ≡ k) ⊎ ((column_place a.places d < k) ⊎ (k < column_place a.places d)) → Before c d ⊎ (c ≡ d)
-            go (inl e) = inr (column_is ∙ ap (nth_column a.places) (sym e) ∙ same)
-            go (inr (inl low)) = absurd (none (column_place a.places d) low (ap (a.step r) same ∙ there.1))
-            go (inr (inr high)) =
-                inl (subst (λ x. Before x d) (sym column_is)
-                (subst (Before (nth_column a.places k)) same
-                (nth_ordered a.places k (column_place a.places d) high (place_below a.places d there.0))))
+        is : nth_column a.places i ≡ c
+        is = sym (reads i 0 (omega (arith, low, many))) ∙ at 0
+
+        later : (d : ℕ) → LeadsTo a j r d → Before c d ⊎ (c ≡ d)
+        later d there =
+            let same : nth_column a.places (column_place a.places d) ≡ d = nth_place a.places d there.0 in
+            elim (cases_order (column_place a.places d) i) [
+              | inl e ↦ inr (sym is ∙ ap (nth_column a.places) (sym e) ∙ same)
+              | inr (inl before) ↦ absurd (passed i (omega (arith, low, many)) none d there before)
+              | inr (inr behind) ↦
+                  let B : ℕ → Type 0 = λ x. Before x d in
+                  inl (subst B is (subst (Before (nth_column a.places i)) same (nth_ordered a.places i (column_place a.places d) behind (place_below a.places d there.0))))
+            ]
 
 -- ---- the rows below a state
 
 module _ (a : Automaton) (j : ℕ) where
-  -- none of the first k rows leads to j
-  abbrev pub NotFrom : ℕ → Type 0
-  NotFrom k = (r : ℕ) → r < k → (c : ℕ) → LeadsTo a j r c → ⊥
-
-  pub pair_found : (link : Link) → link.row < j → FirstColumn a j link.row (Some link.column) → NotFrom link.row → FirstPair a j (Some link)
-  pair_found link low first none = (low, first.0, λ r c h leads. go r c leads (cases_order r link.row))
-    where
-      go : (r c : ℕ) → LeadsTo a j r c → (r ≡ link.row) ⊎ ((r < link.row) ⊎ (link.row < r)) → PairNotAfter link.row link.column r c
-      go r c leads (inl e) = here (first.1 c (subst (λ x. LeadsTo a j x c) e leads))
-        where
-          here : Before link.column c ⊎ (link.column ≡ c) → PairNotAfter link.row link.column r c
-          here (inl b) = inl (inr (sym e, b))
-          here (inr s) = inr (sym e, s)
-      go r c leads (inr (inl l)) = absurd (none r l c leads)
-      go r c leads (inr (inr l)) = inl (inl l)
+  pub first_pair_found : (found : Option Link)
+      → MatchOption found ((r : ℕ) → 0 ≤ r → r < j → FirstColumn a j r None)
+      (λ link. (r : ℕ) × (0 ≤ r) × (r < j) × ((link.row ≡ r) × FirstColumn a j r (Some link.column)) × ((s : ℕ) → 0 ≤ s → s < r → FirstColumn a j s None))
+      → FirstPair a j found
+  first_pair_found None none = λ r c low leads. none r (omega arith) low c leads
+  first_pair_found (Some link) (r, from, low, (at, first), none) =
+      let P : ℕ → Type 0 = λ r. LeadsTo a j r link.column in (
+        omega (arith, at, low),
+        subst P (sym at) first.0,
+        λ s c below leads. elim (cases_order s r) [
+          | inl e ↦ let Q : ℕ → Type 0 = λ x. LeadsTo a j x c in grind (arith, at, first.1 c (subst Q e leads))
+          | inr (inl l) ↦ absurd (none s (omega arith) l c leads)
+          | inr (inr l) ↦ inl (inl (omega (arith, at, l)))
+        ],
+      )

@@ -87,7 +87,7 @@ module _ (n : ℕ) (L : List ℕ → Bool) (rows : List ℕ) (size : ℕ) (t : T
           let at = t.every u (columns_front n u c cs) in
           let goes = t.next at.0 c at.1 hc in
           let same : SameResidual n L (u ++ c ∷ []) (t.first at.0 ++ c ∷ []) =
-          λ v vs. ap L (append_assoc u (c ∷ []) v) ∙ at.2 (c ∷ v) (hc, vs) ∙ ap L (sym (append_assoc (t.first at.0) (c ∷ []) v)) in
+          λ v vs. grind (arith, append_assoc u (c ∷ []) v, at.2 (c ∷ v) (hc, vs), append_assoc (t.first at.0) (c ∷ []) v) in
           let is : next_of n rows at.0 c ≡ j =
           t.different (next_of n rows at.0 c) j goes.0 hj (λ v vs. sym (goes.1 v vs) ∙ sym (same v vs) ∙ ap (λ w. L (w ++ v)) (sym e)) in
           let first : t.first j ≡ t.first at.0 ++ c ∷ [] =

@@ -1,7 +1,8 @@
 -- The first word of the lowest state with an answer is the earliest word with that answer; and the verdict that follows.
-use Rattle.std.proofs.Common.{◌≡◌, ℕ, ◌+◌, ◌-◌, ◌<◌, ◌≤◌, Bool, true, false, ◌⊎◌, List, [], length, take, drop, Some, None, Option, sym, refl, ap, ◌∙◌, subst, inl, inr, arith}
-use Rattle.std.proofs.lemmas.Bool.{cases_order}
-use Rattle.std.proofs.lemmas.List.{append-nil, drop-drop}
+use Rattle.std.proofs.Common.{◌≡◌, ℕ, ◌-◌, ◌<◌, ◌≤◌, Bool, true, false, ◌⊎◌, List, [], length, take, drop, Some, None, Option, sym, refl, ap, ◌∙◌, subst, inl, inr, arith}
+use Rattle.std.proofs.lemmas.Bool.{cases_order, false_from_ne_true, true_from_ne_false}
+use Rattle.std.proofs.lemmas.Grind.{common_steps}
+use Rattle.std.proofs.lemmas.List.{drop-drop}
 use Rattle.words.specs.Words.{Columns}
 use Rattle.words.specs.Order.{NotLater}
 use Rattle.words.specs.Residuals.{SameResidual, Count}
@@ -9,7 +10,8 @@ use Rattle.words.specs.TableOf.{TableOf}
 use Rattle.words.specs.declared.rows.Rows.{Rows}
 use Rattle.words.proofs.Answering.{accepts_inside}
 use Rattle.words.proofs.TableLaws.{table_counts}
-use Rattle.judging.specs.Walk.{described, Tables, FirstLong, Spelled}
+use Rattle.words.specs.Described.{described}
+use Rattle.judging.specs.Walk.{Tables, FirstLong, Spelled}
 use Rattle.judging.specs.Earliest.{Earliest, Written}
 use Rattle.judging.specs.Judged.{Says, Shown, Judged}
 use Rattle.judging.specs.Lowest.{LowestState, WrittenFor, verdict_by}
@@ -28,7 +30,7 @@ module _ (rows : Rows) (L : List ℕ → Bool) (t : Tables rows L) (b : Bool) wh
       → (s : ℕ) × (s < rows.states) × ((described rows).accepts s ≡ b) × NotLater (t.first s) w
   state_of w cs is =
       let e = t.every w cs in
-      let same : L (t.first e.0) ≡ L w = ap L (sym (append-nil (t.first e.0))) ∙ sym (e.2 [] tt) ∙ ap L (append-nil w) in
+      let same : L (t.first e.0) ≡ L w = grind (arith, common_steps, e.2 [] tt) in
       (e.0, e.1, accepts_is e.0 e.1 ∙ same ∙ is, e.3)
 
   pub no_word : LowestState (described rows) b None → (w : List ℕ) → Columns rows.places w → L w ≡ b → ⊥
@@ -60,11 +62,7 @@ module _ (rows : Rows) (b : Bool) (buffer : List ℕ) (room : rows.states ≤ le
       short = omega (arith, low.0, long.0)
 
       further : drop rows.states buffer' ≡ drop rows.states buffer
-      further =
-          let parts : count + (rows.states - count) ≡ rows.states = omega (arith, low.0, long.0) in
-          ap (λ i. drop i buffer') (sym parts) ∙ sym (drop-drop (rows.states - count) count buffer')
-          ∙ ap (drop (rows.states - count)) spelled.0
-          ∙ drop-drop (rows.states - count) count buffer ∙ ap (λ i. drop i buffer) parts
+      further = grind (arith, common_steps, drop-drop (rows.states - count) count buffer', drop-drop (rows.states - count) count buffer, spelled.0, low.0, long.0)
 
       first : (L : List ℕ → Bool) (t : Tables rows L) → Earliest rows.places (λ w. L w ≡ b) (take count buffer')
       first L t =
@@ -72,21 +70,12 @@ module _ (rows : Rows) (b : Bool) (buffer : List ℕ) (room : rows.states ≤ le
 
 -- ---- the verdict
 
--- what does not have one answer has the other
-is_false : (b : Bool) → (b ≡ true → ⊥) → b ≡ false
-is_false true other = absurd (other refl)
-is_false false other = refl
-
-is_true : (b : Bool) → (b ≡ false → ⊥) → b ≡ true
-is_true true other = refl
-is_true false other = absurd (other refl)
-
 module _ (n : ℕ) (L : List ℕ → Bool) (met missed met' missed' : List ℕ) where
   verdict_shown : (w v : Option ℕ) → Written n (λ u. L u ≡ true) met met' w → Written n (λ u. L u ≡ false) missed missed' v
       → Says n L (verdict_by w v) × Shown (verdict_by w v) w v
-  verdict_shown None None no-witness no-counterexample = absurd (no-counterexample.0 [] tt (is_false (L []) (no-witness.0 [] tt)))
-  verdict_shown None (Some j) no-witness counterexample = ((λ u cs. is_false (L u) (no-witness.0 u cs)), (refl, refl))
-  verdict_shown (Some i) None witness no-counterexample = ((λ u cs. is_true (L u) (no-counterexample.0 u cs)), (refl, refl))
+  verdict_shown None None no-witness no-counterexample = absurd (no-counterexample.0 [] tt (false_from_ne_true (L []) (no-witness.0 [] tt)))
+  verdict_shown None (Some j) no-witness counterexample = ((λ u cs. false_from_ne_true (L u) (no-witness.0 u cs)), (refl, refl))
+  verdict_shown (Some i) None witness no-counterexample = ((λ u cs. true_from_ne_false (L u) (no-counterexample.0 u cs)), (refl, refl))
   verdict_shown (Some i) (Some j) witness counterexample = (
     ((take i met', witness.2.columns, witness.2.serves), (take j missed', counterexample.2.columns, counterexample.2.serves)),
     (refl, refl),

@@ -1,3 +1,4 @@
+pub mod Mapped
 pub mod Finding
 pub mod FirstWords
 pub mod Recovered

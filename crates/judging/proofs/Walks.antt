@@ -1,12 +1,21 @@
 -- A walk from a state of a table back to the start, one last column at a time: first for the length of the state's first
 -- word, and then to write it down.
-use Rattle.std.proofs.Common.{◌≡◌, ℕ, zero, suc, ◌+◌, ◌-◌, ◌^◌, ◌<◌, ◌≤◌, Bool, List, [], ◌∷◌, ◌++◌, length, take, drop, set, Some, None, sym, refl, ap, ◌∙◌, arith}
-use Rattle.std.proofs.lemmas.List.{length_push, length-append, length-take, length-take-le, length-drop, append-nil, append_assoc, drop-set, drop-set-lt, nil_from_length}
+use Rattle.std.proofs.Common.{◌≡◌, ℕ, zero, suc, ◌+◌, ◌-◌, ◌^◌, ◌<◌, ◌≤◌, Bool, List, [], ◌∷◌, ◌++◌, length, take, drop, set, Some, None, Option, inl, inr, sym, refl, ap, ◌∙◌, subst, arith}
+use Rattle.std.proofs.lemmas.Grind.{common_steps}
+use Rattle.std.proofs.lemmas.List.{length_push, length-append, length-take-le, length-drop, drop-set, drop-set-lt, nil_from_length}
+use Rattle.std.specs.Iterator.{Yields}
+use Rattle.std.specs.Iterator.Adapters.{zip_first, zip_second, zip_steps, rev_source, rev_steps}
+use Rattle.std.specs.declared.iter.Rev.{Rev}
+use Rattle.std.specs.declared.iter.Zip.{Zip}
+use Rattle.std.specs.declared.ops.Range.{Range}
+use Rattle.std.proofs.iter.runs.Sources.{nat_range_steps_back}
 use Rattle.words.specs.Rows.{next_of}
 use Rattle.words.specs.declared.rows.Rows.{Rows}
 use Rattle.words.proofs.Answering.{step_inside}
-use Rattle.judging.specs.Walk.{described, FirstPair, Tables, FirstLong, Spelled}
+use Rattle.words.specs.Described.{described}
+use Rattle.judging.specs.Walk.{FirstPair, Follows, Tables, FirstLong, Spelled}
 use Rattle.judging.specs.declared.walk.Link.{Link}
+use Rattle.judging.specs.declared.walk.Links.{Links}
 use Rattle.judging.proofs.FirstWords.{some_pair, first_pair}
 
 -- ---- one step back
@@ -31,105 +40,109 @@ module _ (rows : Rows) (L : List ℕ → Bool) (t : Tables rows L) where
       let low : p.0 < suc j = p.2 in
       absurd (none p.0 p.1 low (p.3, by_cell p.0 p.1 (omega arith) p.3 ∙ p.4))
 
--- ---- the walk for the length
+-- ---- the links for the length
 
--- `count` columns were passed from the end of the first word of a state, and the rest is the first word of `at`
-abbrev pub Walked : Rows → ℕ → ℕ → ℕ → Type 0
-Walked rows state count at =
-    (count + at ≤ state)
-    × ((L : List ℕ → Bool) (t : Tables rows L) → state < rows.states → length (t.first state) ≡ length (t.first at) + count)
-
-pub walk_start : (rows : Rows) (state : ℕ) → Walked rows state 0 state
-walk_start rows state = (omega arith, λ L t h. omega arith)
-
-module _ (rows : Rows) (state count at : ℕ) (walked : Walked rows state count at) where
-  low_enough : at ≤ state
-  low_enough = omega (arith, walked.0)
-
-  pub walk_more : (link : Link) → FirstPair (described rows) at (Some link) → Walked rows state (count + 1) link.row
-  walk_more link first = (omega (arith, walked.0, first.0), λ L t h. longer L t h)
-    where
-      longer : (L : List ℕ → Bool) (t : Tables rows L) → state < rows.states → length (t.first state) ≡ length (t.first link.row) + (count + 1)
-      longer L t h =
-          omega (arith, low_enough, walked.1 L t h, length_push (t.first link.row) link.column, ap length (back_some rows L t at link (omega (arith, low_enough)) first))
-
-  pub walk_end : FirstPair (described rows) at None → FirstLong rows state count
-  walk_end none = (
-    omega (arith, walked.0),
-    λ L t h. walked.1 L t h ∙ ap (λ w. length w + count) (back_none rows L t at (omega (arith, low_enough)) none) ∙ omega arith,
+module _ (rows : Rows) where
+  one_more : (j : ℕ) (link : Link) (k : ℕ) → FirstPair (described rows) j (Some link) → FirstLong rows link.row k → FirstLong rows j (suc k)
+  one_more j link k first rest = (
+    omega (arith, first.0, rest.0),
+    λ L t h. omega (arith, ap length (back_some rows L t j link h first), length_push (t.first link.row) link.column, rest.1 L t (omega (arith, first.0))),
   )
 
--- ---- the walk that writes
+  -- there are as many links from a state as its first word has columns
+  pub links_long : (xs : List Link) (s t u : Links) → s.rows.now ≡ rows → Yields Follows s xs t → Follows t None u → FirstLong rows s.at (length xs)
+  links_long [] s t u is y end =
+      let here : Follows s None u = subst (λ (q : Links). Follows q None u) (sym y) end in
+      let none : FirstPair (described rows) s.at None = subst (λ (r : Rows). FirstPair (described r) s.at None) is here.0 in
+      (omega arith, λ L t h. ap length (back_none rows L t s.at h none))
+  links_long (x ∷ xs) s t u is (j, step, y) end =
+      one_more s.at x (length xs) (subst (λ (r : Rows). FirstPair (described r) s.at (Some x)) is step.0)
+      (subst (λ i. FirstLong rows i (length xs)) step.2 (links_long xs j t u (ap (λ r. r.now) step.1 ∙ is) y end))
 
--- the columns from k on were written, and the rest of the word is the first word of `at`
-abbrev pub Spelling : Rows → ℕ → ℕ → ℕ → ℕ → List ℕ → List ℕ → Type 0
-Spelling rows state count k at before buffer =
-    (at ≤ state) × (drop count buffer ≡ drop count before)
-    × ((L : List ℕ → Bool) (t : Tables rows L) → state < rows.states → length (t.first state) ≡ count
-    → t.first state ≡ t.first at ++ take (count - k) (drop k buffer))
+-- ---- the links for the word
 
-pub spell_start : (rows : Rows) (state count : ℕ) (buffer : List ℕ) → Spelling rows state count count state buffer buffer
-spell_start rows state count buffer = (
-  omega arith,
-  refl,
-  λ L t h is. sym (ap (λ i. t.first state ++ take i (drop count buffer)) none ∙ append-nil (t.first state)),
-)
-  where
-    none : count - count ≡ 0
-    none = omega arith
+-- the countdown of places, and the links beside it
+abbrev pub Turns : Type 0
+Turns = Zip (Rev (Range ℕ)) Links
 
-module _ (rows : Rows) (state count k at : ℕ) (before buffer : List ℕ) (spelling : Spelling rows state count k at before buffer)
-    (within : k ≤ count) (room : count ≤ length buffer)
-  where
-    at_state : at ≤ state
-    at_state = spelling.0
+abbrev places : Turns → Range ℕ
+places turns = rev_source (zip_first turns)
 
-    -- one column more
-    module _ (some : 0 < k) where
-      written_more : (c : ℕ) → take (count - (k - 1)) (drop (k - 1) (set buffer (k - 1) c)) ≡ c ∷ take (count - k) (drop k buffer)
-      written_more c =
-          let more : count - (k - 1) ≡ suc (count - k) = omega arith in
-          let back : k - 1 + 1 ≡ k = omega arith in
-          ap (λ i. take i (drop (k - 1) (set buffer (k - 1) c))) more
-          ∙ ap (take (suc (count - k))) (drop-set buffer (k - 1) c (omega arith))
-          ∙ ap (λ i. c ∷ take (count - k) (drop i buffer)) back
+abbrev links : Turns → Links
+links turns = zip_second turns
 
-      pub spell_more : (link : Link) → FirstPair (described rows) at (Some link)
-          → Spelling rows state count (k - 1) link.row before (set buffer (k - 1) link.column)
-      spell_more link first = (
-        omega (arith, first.0, at_state),
-        drop-set-lt count buffer (k - 1) link.column (omega arith) ∙ spelling.1,
-        λ L t h is.
-            spelling.2 L t h is
-            ∙ ap (λ w. w ++ take (count - k) (drop k buffer)) (back_some rows L t at link (omega (arith, at_state)) first)
-            ∙ append_assoc (t.first link.row) (link.column ∷ []) (take (count - k) (drop k buffer))
-            ∙ ap (λ w. t.first link.row ++ w) (sym (written_more link.column)),
-      )
+-- what `next` of the two gives
+abbrev pub Turn : Turns → Option (ℕ × Link) → Turns → Type 0
+Turn = zip_steps (rev_steps nat_range_steps_back) Follows
 
-      -- in a table the walk does not end before the whole word is written
-      pub spell_ends : FirstPair (described rows) at None → Spelled rows state count before buffer
-      spell_ends none = (spelling.1, λ L t h is. absurd (short L t h is))
-        where
-          short : (L : List ℕ → Bool) (t : Tables rows L) → state < rows.states → length (t.first state) ≡ count → ⊥
-          short L t h is =
-              omega (
-                arith,
-                is,
-                ap length (spelling.2 L t h is ∙ ap (λ w. w ++ take (count - k) (drop k buffer)) (back_none rows L t at (omega (arith, at_state)) none)),
-                length-take (count - k) (drop k buffer),
-                length-drop k buffer,
-              )
+module _ (rows : Rows) (state count : ℕ) (before : List ℕ) where
+  -- the columns behind the places that are left were written, and the rest of the word is the first word of the state at hand
+  pub record Writing (buffer : List ℕ) (turns : Turns) : Type 0 where
+    pub from : (places turns).start ≡ 0
+    pub within : (places turns).end ≤ count
+    pub over : (links turns).rows.now ≡ rows
+    pub low : (links turns).at ≤ state
+    pub behind : drop count buffer ≡ drop count before
+    pub spelled : (L : List ℕ → Bool) (t : Tables rows L) → state < rows.states → length (t.first state) ≡ count
+        → t.first state ≡ t.first (links turns).at ++ take (count - (places turns).end) (drop (places turns).end buffer)
 
-    pub spell_end : k ≡ 0 → Spelled rows state count before buffer
-    spell_end end = (spelling.1, λ L t h is. sym (whole L t h is))
+  module _ (buffer : List ℕ) (room : count ≤ length buffer) (turns turns' : Turns) (writing : Writing buffer turns) where
+    -- what `Follows` says of the rows at hand, said of these
+    here : (found : Option Link) → FirstPair (described (links turns).rows.now) (links turns).at found → FirstPair (described rows) (links turns).at found
+    here found first = subst (λ (r : Rows). FirstPair (described r) (links turns).at found) writing.over first
+
+    written_more : (k column : ℕ) → k < count → take (count - k) (drop k (set buffer k column)) ≡ column ∷ take (count - (k + 1)) (drop (k + 1) buffer)
+    written_more k column left =
+        let more : count - k ≡ suc (count - (k + 1)) = omega arith in
+        grind (arith, common_steps, drop-set buffer k column (omega arith))
+
+    pub writing_more : (k : ℕ) (link : Link) → Turn turns (Some (k, link)) turns' → Writing (set buffer k link.column) turns'
+    writing_more k link (range, (first, same, at)) =
+        let is : k ≡ (places turns').end = range.1.1 in
+        let more : (places turns).end ≡ k + 1 = omega (arith, range.1.2, is) in
+        let left : k < count = omega (arith, more, writing.within) in
+        record {
+          from = range.0 ∙ writing.from;
+          within = omega (arith, is, left);
+          over = ap (λ r. r.now) same ∙ writing.over;
+          low = omega (arith, at, first.0, writing.low);
+          behind = drop-set-lt count buffer k link.column left ∙ writing.behind;
+          spelled = λ L t h is.
+              let back : t.first (links turns).at ≡ t.first link.row ++ link.column ∷ [] = back_some rows L t (links turns).at link (omega (arith, writing.low)) (here (Some link) first) in
+              grind (arith, common_steps, writing.spelled L t h is, written_more k link.column left, at);
+        }
+
+    -- no place is left, or no link: in a table it is both, and the whole word is written
+    pub writing_end : Turn turns None turns' → Spelled rows state count before buffer
+    writing_end end = (writing.behind, λ L t h is. whole L t h is)
       where
-        all : count - 0 ≡ count
-        all = omega arith
-
-        whole : (L : List ℕ → Bool) (t : Tables rows L) → state < rows.states → length (t.first state) ≡ count → t.first state ≡ take count buffer
+        whole : (L : List ℕ → Bool) (t : Tables rows L) → state < rows.states → length (t.first state) ≡ count → take count buffer ≡ t.first state
         whole L t h is =
-            let parts : t.first state ≡ t.first at ++ take count buffer =
-            spelling.2 L t h is ∙ ap (λ i. t.first at ++ take (count - i) (drop i buffer)) end ∙ ap (λ i. t.first at ++ take i buffer) all in
-            let none : length (t.first at) ≡ 0 =
-            omega (arith, is, ap length parts, length-append (t.first at) (take count buffer), length-take-le count buffer room) in
-            parts ∙ ap (λ w. w ++ take count buffer) (nil_from_length (t.first at) none)
+            let k = (places turns).end in
+            let rest = take (count - k) (drop k buffer) in
+            let parts : length (t.first (links turns).at) + (count - k) ≡ count =
+            omega (arith, is, ap length (writing.spelled L t h is), length-append (t.first (links turns).at) rest, length-take-le (count - k) (drop k buffer) (omega (arith, room, length-drop k buffer))) in
+            let none : length (t.first (links turns).at) ≡ 0 =
+            elim end [
+              | inl e ↦ omega (arith, parts, writing.within, writing.from, e.1.1.0)
+              | inr e ↦ ap length (back_none rows L t (links turns).at (omega (arith, writing.low)) (here None e.1.0))
+            ] in
+            let done : k ≡ 0 = omega (arith, none, parts, writing.within) in
+            grind (arith, common_steps, writing.spelled L t h is, nil_from_length (t.first (links turns).at) none)
+
+module _ (rows : Rows) (state count : ℕ) (buffer : List ℕ) (turns : Turns) (range : Rev (Range ℕ)) (start : Links)
+    (first : zip_first turns ≡ range) (countdown : rev_source range ≡ record { start = 0; end = count }) (second : zip_second turns ≡ start)
+  where
+    pub writing_start : start.rows.now ≡ rows → start.at ≡ state → Writing rows state count buffer buffer turns
+    writing_start over at =
+        let bounds : places turns ≡ record { start = 0; end = count } = ap rev_source first ∙ countdown in
+        let end : (places turns).end ≡ count = ap (λ (r : Range ℕ). r.end) bounds in
+        let here : (links turns).at ≡ state = ap (λ (l : Links). l.at) second ∙ at in
+        record {
+          from = ap (λ (r : Range ℕ). r.start) bounds;
+          within = omega (arith, end);
+          over = ap (λ (l : Links). l.rows.now) second ∙ over;
+          low = omega (arith, here);
+          behind = refl;
+          spelled = λ L t h is. grind (arith, common_steps);
+        }

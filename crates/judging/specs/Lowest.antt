@@ -1,6 +1,6 @@
 -- The lowest state with an answer, and its word in a buffer: contracts of the functions within judging. A reader of the statement
 -- can pass over this file.
-use Rattle.std.specs.Prelude.{◌≡◌, ℕ, ◌<◌, Bool, List, Some, None, Option, ◌≢◌}
+use Rattle.std.specs.Prelude.{◌≡◌, ℕ, ◌<◌, Bool, List, Some, None, Option, MatchOption, ◌≢◌}
 use Rattle.words.specs.Automata.{Automaton}
 use Rattle.words.specs.declared.rows.Rows.{Rows}
 use Rattle.judging.specs.Walk.{Tables}
@@ -11,8 +11,8 @@ use Rattle.judging.specs.declared.verdict.Verdict.TheVariants.{NoSets, SomeSets,
 
 -- the lowest state that accepts, or the lowest that does not
 abbrev pub LowestState : Automaton → Bool → Option ℕ → Type 0
-LowestState a b None = (s : ℕ) → s < a.states → a.accepts s ≢ b
-LowestState a b (Some j) = (j < a.states) × (a.accepts j ≡ b) × ((s : ℕ) → s < j → a.accepts s ≢ b)
+LowestState a b r =
+    MatchOption r ((s : ℕ) → s < a.states → a.accepts s ≢ b) (λ j. (j < a.states) × (a.accepts j ≡ b) × ((s : ℕ) → s < j → a.accepts s ≢ b))
 
 -- the earliest word with answer b, in every language that the rows are the table of
 abbrev pub WrittenFor : Rows → Bool → List ℕ → List ℕ → Option ℕ → Type 0

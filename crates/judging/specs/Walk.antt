@@ -1,15 +1,12 @@
 -- Walks from a state back to the start: contracts of the functions within. A reader of the statement can pass over this file.
-use Rattle.std.specs.Prelude.{◌≡◌, ℕ, ◌^◌, ◌<◌, ◌≤◌, Bool, ◌⊎◌, List, length, take, drop, Some, None, Option}
+use Rattle.std.specs.Prelude.{◌≡◌, ℕ, ◌^◌, ◌<◌, ◌≤◌, Bool, ◌⊎◌, List, length, take, drop, Option, MatchOption}
 use Rattle.words.specs.Automata.{Automaton}
 use Rattle.words.specs.Order.{Before, PairNotAfter}
-use Rattle.words.specs.Rows.{written}
+use Rattle.words.specs.Described.{described}
 use Rattle.words.specs.TableOf.{TableOf}
 use Rattle.words.specs.declared.rows.Rows.{Rows}
 use Rattle.judging.specs.declared.walk.Link.{Link}
-
--- the automaton that rows describe
-abbrev pub described : Rows → Automaton
-described rows = written rows.places rows.states rows.cells.now
+use Rattle.judging.specs.declared.walk.Links.{Links}
 
 -- a column leads from row r to state j
 abbrev pub LeadsTo : Automaton → ℕ → ℕ → ℕ → Type 0
@@ -17,15 +14,19 @@ LeadsTo a j r c = (c < 2 ^ a.places) × (a.step r c ≡ j)
 
 -- the first column that leads from row r to state j
 abbrev pub FirstColumn : Automaton → ℕ → ℕ → Option ℕ → Type 0
-FirstColumn a j r None = (c : ℕ) → LeadsTo a j r c → ⊥
-FirstColumn a j r (Some c) = LeadsTo a j r c × ((d : ℕ) → LeadsTo a j r d → Before c d ⊎ (c ≡ d))
+FirstColumn a j r found =
+    MatchOption found ((c : ℕ) → ¬ LeadsTo a j r c) (λ c. LeadsTo a j r c × ((d : ℕ) → LeadsTo a j r d → Before c d ⊎ (c ≡ d)))
 
 -- the first pair of a row below j and a column that leads from there to state j
 abbrev pub FirstPair : Automaton → ℕ → Option Link → Type 0
-FirstPair a j None = (r c : ℕ) → r < j → LeadsTo a j r c → ⊥
-FirstPair a j (Some link) =
-    (link.row < j) × LeadsTo a j link.row link.column
-    × ((r c : ℕ) → r < j → LeadsTo a j r c → PairNotAfter link.row link.column r c)
+FirstPair a j found =
+    MatchOption found ((r c : ℕ) → r < j → ¬ LeadsTo a j r c)
+    (λ link. (link.row < j) × LeadsTo a j link.row link.column
+    × ((r c : ℕ) → r < j → LeadsTo a j r c → PairNotAfter link.row link.column r c))
+
+-- a call of `next` gives the first pair that leads to the state at hand, and its row is at hand then; at the end nothing changes
+abbrev pub Follows : Links → Option Link → Links → Type 0
+Follows s r t = FirstPair (described s.rows.now) s.at r × (t.rows ≡ s.rows) × MatchOption r (t.at ≡ s.at) (λ link. t.at ≡ link.row)
 
 -- the rows are the table of L
 abbrev pub Tables : Rows → (List ℕ → Bool) → Type 0

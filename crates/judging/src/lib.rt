@@ -11,6 +11,9 @@ mod tests {
     use super::*;
     use words::Rows;
 
+    // Each member of set 0 is in set 1.
+    const WITHIN: [u16; 10] = [0, 1, 0, 0, 1, 1, 1, 1, 1, 0];
+
     // Judges a table, with two buffers that are filled with 9.
     fn judged(rows: Rows) -> (Option<Judgement>, [u8; 4], [u8; 4]) {
         let mut witness = [9u8; 4];
@@ -19,21 +22,24 @@ mod tests {
         (judgement, witness, counterexample)
     }
 
-    // Each member of set 0 is in set 1.
+    // The judgement that some sets meet the claim, with the lengths of the two words.
+    fn some_sets(states: usize, witness: usize, counterexample: usize) -> Option<Judgement> {
+        Some(Judgement {
+            verdict: Verdict::SomeSets,
+            states,
+            witness: Some(witness),
+            counterexample: Some(counterexample),
+        })
+    }
+
     #[test]
     fn within(rt: HostRuntime) {
         let (judgement, witness, counterexample) = judged(Rows {
             places: 2,
             states: 2,
-            cells: &[0, 1, 0, 0, 1, 1, 1, 1, 1, 0],
+            cells: &WITHIN,
         });
-        let expected = Judgement {
-            verdict: Verdict::SomeSets,
-            states: 2,
-            witness: Some(0),
-            counterexample: Some(1),
-        };
-        assert_eq!(rt; judgement, Some(expected));
+        assert_eq!(rt; judgement, some_sets(2, 0, 1));
         assert!(rt; witness == [9, 9, 9, 9]);
         assert!(rt; counterexample == [1, 9, 9, 9]);
     }
@@ -46,13 +52,7 @@ mod tests {
             states: 3,
             cells: &[0, 1, 0, 1, 2, 1, 2, 2, 0],
         });
-        let expected = Judgement {
-            verdict: Verdict::SomeSets,
-            states: 3,
-            witness: Some(1),
-            counterexample: Some(0),
-        };
-        assert_eq!(rt; judgement, Some(expected));
+        assert_eq!(rt; judgement, some_sets(3, 1, 0));
         assert!(rt; witness == [1, 9, 9, 9]);
         assert!(rt; counterexample == [9, 9, 9, 9]);
     }
@@ -65,13 +65,7 @@ mod tests {
             states: 4,
             cells: &[0, 1, 2, 2, 0, 2, 2, 3, 2, 0, 2, 2, 2, 2, 0, 3, 2, 2, 2, 1],
         });
-        let expected = Judgement {
-            verdict: Verdict::SomeSets,
-            states: 4,
-            witness: Some(2),
-            counterexample: Some(0),
-        };
-        assert_eq!(rt; judgement, Some(expected));
+        assert_eq!(rt; judgement, some_sets(4, 2, 0));
         assert!(rt; witness == [1, 2, 9, 9]);
         assert!(rt; counterexample == [9, 9, 9, 9]);
     }
@@ -113,7 +107,7 @@ mod tests {
         let rows = Rows {
             places: 2,
             states: 2,
-            cells: &[0, 1, 0, 0, 1, 1, 1, 1, 1, 0],
+            cells: &WITHIN,
         };
         let mut short = [9u8; 1];
         let mut long = [9u8; 2];

@@ -1,6 +1,6 @@
 //! The verdict on a table, and the earliest words that show it.
 ghost use Rattle.std.specs.Prelude.{◌≡◌, ◌≤◌, length};
-ghost use Rattle.judging.specs.Walk.{described};
+ghost use Rattle.words.specs.Described.{described};
 ghost use Rattle.judging.specs.Lowest.{LowestState, WrittenFor, verdict_by};
 ghost use Rattle.judging.specs.Judged.{Judges};
 
@@ -29,12 +29,7 @@ pub struct Judgement {
 fn lowest_state(rows: &Rows, accepting: bool) -> Option<u16>
     ensures { LowestState (described rows.now) accepting result }
 {
-    for state in 0..rows.states {
-        if rows.accepts(state) == accepting {
-            return Some(state);
-        }
-    }
-    None
+    (0..rows.states).find(|state| rows.accepts(*state) == accepting)
 }
 
 // Writes the earliest word that the table accepts, or the earliest that it does not, and answers its length.
@@ -42,9 +37,7 @@ fn write_earliest(rows: &Rows, accepting: bool, buffer: &mut [u8]) -> Option<usi
     requires room { rows.now.states ≤ length buffer.old }
     ensures { WrittenFor rows.now accepting buffer.old buffer.new result }
 {
-    let Some(state) = lowest_state(rows, accepting) else {
-        return None;
-    };
+    let state = lowest_state(rows, accepting)?;
     let count = word_length(rows, state);
     write_word(rows, state, count, buffer);
     Some(count)
@@ -54,12 +47,10 @@ fn write_earliest(rows: &Rows, accepting: bool, buffer: &mut [u8]) -> Option<usi
 fn verdict_by(witness: Option<usize>, counterexample: Option<usize>) -> Verdict
     ensures { result ≡ verdict_by witness counterexample }
 {
-    match witness {
-        None => Verdict::NoSets,
-        Some(_) => match counterexample {
-            None => Verdict::AllSets,
-            Some(_) => Verdict::SomeSets,
-        },
+    match (witness, counterexample) {
+        (None, _) => Verdict::NoSets,
+        (Some(_), None) => Verdict::AllSets,
+        (Some(_), Some(_)) => Verdict::SomeSets,
     }
 }
 

@@ -1,45 +1,41 @@
--- Pieces laid one after another.
-use Rattle.std.proofs.Common.{◌≡◌, ℕ, suc, ◌+◌, ◌≤◌, List, [], ◌∷◌, ◌++◌, length, take, drop, set, sym, refl, ap, ◌∙◌, subst, arith, length-append, length-set}
-use Rattle.std.proofs.lemmas.List.{append-nil, append_assoc, take_more_set, drop-set-lt}
-use Rattle.saving.specs.Laying.{laid, Lays}
+-- Pieces laid one after another, and a whole text in a buffer.
+use Rattle.std.proofs.Common.{◌≡◌, ℕ, ◌+◌, ◌-◌, ◌^◌, ◌<◌, ◌≤◌, List, [], ◌∷◌, ◌++◌, length, take, drop, set, min, sym, ap, ◌∙◌, arith, length-set}
+use Rattle.std.proofs.lemmas.Grind.{common_steps}
+use Rattle.std.proofs.lemmas.List.Sums.{fold-append}
+use Rattle.saving.specs.Laying.{Page, Lays, LaysWhole, page, with_byte, with_piece}
+use Rattle.saving.specs.declared.text.Text.{Text}
 
-pub length_laid : (ys : List ℕ) (at : ℕ) (buffer : List ℕ) → length (laid ys at buffer) ≡ length buffer
-length_laid [] at buffer = refl
-length_laid (b ∷ ys) at buffer = length_laid ys (at + 1) (set buffer at b) ∙ length-set buffer at b
+pub lays_then : {xs ys : List ℕ} {a b c : Text} → Lays xs a b → Lays ys b c → Lays (xs ++ ys) a c
+lays_then {xs} {ys} {a} first second = record {
+  same = second.same ∙ first.same;
+  laid = second.laid ∙ ap (λ p. with_piece p ys) first.laid ∙ sym (fold-append with_byte (page a) xs ys);
+}
 
-laid_then : (xs ys : List ℕ) (at : ℕ) (buffer : List ℕ) → laid ys (at + length xs) (laid xs at buffer) ≡ laid (xs ++ ys) at buffer
-laid_then [] ys at buffer = ap (λ i. laid ys i buffer) {x = at + 0} {y = at} (omega arith)
-laid_then (x ∷ xs) ys at buffer =
-    ap (λ i. laid ys i (laid xs (at + 1) (set buffer at x))) {x = at + suc (length xs)} {y = at + 1 + length xs} (omega arith)
-    ∙ laid_then xs ys (at + 1) (set buffer at x)
+-- where a piece ends
+piece_end : (piece : List ℕ) (buffer : List ℕ) (at : ℕ) → at < 2 ^ 64 → (with_piece (buffer, at) piece).1 ≡ min (at + length piece) (2 ^ 64 - 1)
+piece_end [] buffer at small = omega (arith, small)
+piece_end (byte ∷ rest) buffer at small = omega (arith, small, piece_end rest (set buffer at byte) (min (at + 1) (2 ^ 64 - 1)) (omega arith))
 
--- nothing was laid yet
-pub lays_none : (at : ℕ) (buffer : List ℕ) → Lays [] at buffer buffer at
-lays_none at buffer = (omega arith, refl)
+-- a piece that fits
+piece_fits : (piece : List ℕ) (buffer : List ℕ) (at : ℕ) → length buffer < 2 ^ 64 → at + length piece ≤ length buffer
+    → with_piece (buffer, at) piece ≡ (take at buffer ++ (piece ++ drop (at + length piece) buffer), at + length piece)
+piece_fits [] buffer at small room =
+    grind (arith, common_steps)
+piece_fits (byte ∷ rest) buffer at small room =
+    let next : min (at + 1) (2 ^ 64 - 1) ≡ at + 1 = omega (arith, small, room) in
+    let later = piece_fits rest (set buffer at byte) (at + 1) (omega (arith, small, length-set buffer at byte)) (omega (arith, room, length-set buffer at byte)) in
+    grind (arith, common_steps, later)
 
--- one piece, and then another
-pub lays_then : (xs ys : List ℕ) (at : ℕ) (buffer : List ℕ) (mid : ℕ) (buffer₁ : List ℕ) (end : ℕ) (buffer₂ : List ℕ)
-    → Lays xs at buffer buffer₁ mid → Lays ys mid buffer₁ buffer₂ end → Lays (xs ++ ys) at buffer buffer₂ end
-lays_then xs ys at buffer mid buffer₁ end buffer₂ first second = (
-  omega (arith, first.0, second.0, length-append xs ys),
-  second.1 ∙ ap (λ i. laid ys i buffer₁) first.0 ∙ ap (laid ys (at + length xs)) first.1 ∙ laid_then xs ys at buffer,
-)
+-- ---- a text at the front of a buffer
 
--- the same piece by another name
-pub lays_as : (xs ys : List ℕ) (at : ℕ) (buffer buffer' : List ℕ) (end : ℕ) → xs ≡ ys → Lays xs at buffer buffer' end → Lays ys at buffer buffer' end
-lays_as xs ys at buffer buffer' end e = subst (λ l. Lays l at buffer buffer' end) e
+module _ (text buffer buffer' : List ℕ) (end : ℕ) (whole : LaysWhole text buffer buffer' end) where
+  pub whole_end : end ≡ min (length text) (2 ^ 64 - 1)
+  whole_end = omega (arith, ap (λ (p : Page). p.1) whole, piece_end text buffer 0 (omega arith))
 
--- ---- a piece that fits
-
-pub take_laid : (ys : List ℕ) (at : ℕ) (buffer : List ℕ) → at + length ys ≤ length buffer → take (at + length ys) (laid ys at buffer) ≡ take at buffer ++ ys
-take_laid [] at buffer room = ap (λ i. take i buffer) {x = at + 0} {y = at} (omega arith) ∙ sym (append-nil (take at buffer))
-take_laid (b ∷ ys) at buffer room =
-    ap (λ i. take i (laid ys (at + 1) (set buffer at b))) {x = at + suc (length ys)} {y = at + 1 + length ys} (omega arith)
-    ∙ take_laid ys (at + 1) (set buffer at b) (omega (arith, length-set buffer at b, room))
-    ∙ ap (λ l. l ++ ys) (take_more_set buffer at b (omega (arith, room)))
-    ∙ append_assoc (take at buffer) (b ∷ []) ys
-
-pub drop_laid : (ys : List ℕ) (at k : ℕ) (buffer : List ℕ) → at + length ys ≤ k → drop k (laid ys at buffer) ≡ drop k buffer
-drop_laid [] at k buffer within = refl
-drop_laid (b ∷ ys) at k buffer within =
-    drop_laid ys (at + 1) k (set buffer at b) (omega (arith, within)) ∙ drop-set-lt k buffer at b (omega (arith, within))
+  pub whole_fits : length buffer < 2 ^ 64 → length text ≤ length buffer
+      → (end ≡ length text) × (length buffer' ≡ length buffer) × (take end buffer' ≡ text) × (drop end buffer' ≡ drop end buffer)
+  whole_fits small room =
+      let fits = whole ∙ piece_fits text buffer 0 small (omega (arith, room)) in
+      let long : end ≡ length text = omega (arith, ap (λ (p : Page). p.1) fits) in
+      let holds : buffer' ≡ text ++ drop (0 + length text) buffer = ap (λ (p : Page). p.0) fits in
+      (long, grind (arith, common_steps), grind (arith, common_steps), grind (arith, common_steps))

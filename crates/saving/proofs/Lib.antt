@@ -1,4 +1,2 @@
-pub mod Layings
-pub mod Digits
 pub mod Lines
-pub mod Saves
+pub mod Layings

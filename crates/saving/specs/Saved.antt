@@ -1,9 +1,9 @@
 -- What is answered, and what a buffer holds, when a table is saved.
-use Rattle.std.specs.Prelude.{◌≡◌, ℕ, ◌<◌, ◌≤◌, List, length, take, drop, Ok, Err, Result}
+use Rattle.std.specs.Prelude.{◌≡◌, ℕ, ◌<◌, ◌≤◌, List, length, take, drop, codes, Ok, Err, Result}
 use Rattle.words.specs.declared.rows.Rows.{Rows}
 use Rattle.saving.specs.TableText.{table_text}
-use Rattle.saving.specs.declared.table.Unsaved.{Unsaved}
-use Rattle.saving.specs.declared.table.Unsaved.TheVariants.{TooManySets, NoBuffer}
+use Rattle.saving.specs.declared.unsaved.Unsaved.{Unsaved}
+use Rattle.saving.specs.declared.unsaved.Unsaved.TheVariants.{TooManySets, NoBuffer}
 
 -- the text of rows
 abbrev pub rows_text : Rows → List ℕ
@@ -17,3 +17,8 @@ Saved rows buffer buffer' (Ok k) =
     × (take k buffer' ≡ rows_text rows) × (drop k buffer' ≡ drop k buffer)
 Saved rows buffer buffer' (Err TooManySets) = (4 < rows.places) × (buffer' ≡ buffer)
 Saved rows buffer buffer' (Err NoBuffer) = (rows.places ≤ 4) × (length buffer < length (rows_text rows)) × (buffer' ≡ buffer)
+
+-- what is printed of a refusal
+abbrev pub sentence : Unsaved → List ℕ
+sentence TooManySets = codes "the table is over more than four sets"
+sentence NoBuffer = codes "the buffer is shorter than the text"

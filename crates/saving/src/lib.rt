@@ -1,10 +1,12 @@
 //! Tables written as text.
 #![tactic(auto)]
 
-mod laying;
 mod table;
+mod text;
+mod unsaved;
 
-pub use table::{Unsaved, save_rows};
+pub use table::save_rows;
+pub use unsaved::Unsaved;
 
 #[cfg(test)]
 mod tests {
@@ -12,18 +14,17 @@ mod tests {
     use words::Rows;
 
     // Set 0 has exactly one member.
-    const ONE_MEMBER: [u16; 9] = [0, 1, 0, 1, 2, 1, 2, 2, 0];
+    const ONE_MEMBER: Rows<'static> = Rows {
+        places: 1,
+        states: 3,
+        cells: &[0, 1, 0, 1, 2, 1, 2, 2, 0],
+    };
 
     // Into a buffer with a byte to spare, which stays.
     #[test]
     fn one_member(rt: HostRuntime) {
-        let rows = Rows {
-            places: 1,
-            states: 3,
-            cells: &ONE_MEMBER,
-        };
         let mut buffer = [9u8; 45];
-        assert_eq!(rt; save_rows(&rows, &mut buffer), Ok(44));
+        assert_eq!(rt; save_rows(&ONE_MEMBER, &mut buffer), Ok(44));
         assert!(rt; buffer == *b"state accepts n0 n1\n0 0 0 1\n1 1 1 2\n2 0 2 2\n\t");
     }
 
@@ -62,12 +63,7 @@ mod tests {
     #[test]
     fn refused(rt: HostRuntime) {
         let mut buffer = [9u8; 43];
-        let rows = Rows {
-            places: 1,
-            states: 3,
-            cells: &ONE_MEMBER,
-        };
-        assert_eq!(rt; save_rows(&rows, &mut buffer), Err(Unsaved::NoBuffer));
+        assert_eq!(rt; save_rows(&ONE_MEMBER, &mut buffer), Err(Unsaved::NoBuffer));
         let rows = Rows {
             places: 5,
             states: 0,

@@ -1,77 +1,62 @@
 //! A table as text: a line of names, and then a line for each state.
-ghost use Rattle.std.specs.Prelude.{◌+◌, ◌^◌, ◌<◌, ◌≤◌};
-ghost use Rattle.saving.specs.Laying.{Lays, described, nexts_of};
+ghost use Rattle.std.specs.Prelude.{◌^◌};
+ghost use Rattle.words.specs.Described.{described};
+ghost use Rattle.saving.specs.Laying.{Lays, LaysWhole, nexts_of};
 ghost use Rattle.saving.specs.Saved.{Saved, rows_text};
 ghost use Rattle.saving.specs.TableText.{names_line, row_line};
 
-use crate::laying::{lay_byte, lay_bytes, lay_number};
+use crate::text::Text;
+use crate::unsaved::Unsaved;
 use words::Rows;
 
-/// The most sets that a table is saved over.
+// The most sets that a table is saved over.
 const MOST_SETS: u8 = 4;
 
-/// Why a table was not saved: it is over more than four sets, or the buffer is shorter than the text.
-#[derive(Clone, Copy, PartialEq, Eq, Debug)]
-pub enum Unsaved {
-    TooManySets,
-    NoBuffer,
-}
-
 // Lays the line of names.
-fn lay_names(buffer: &mut [u8], places: u8) -> usize
-    requires few { places ≤ 4 }
-    ensures lays { Lays (names_line places) 0 buffer.old buffer.new result }
-    ensures short { result ≤ 126 }
+fn lay_names(text: &mut Text, rows: &Rows)
+    ensures { Lays (names_line rows.now.places) text.old text.new }
 {
-    let mut at = lay_bytes(buffer, 0, b"state accepts");
-    let columns = 1u8 << places;
+    text.bytes(b"state accepts");
+    let columns = rows.columns();
     for column in 0..columns {
-        at = lay_bytes(buffer, at, b" n");
-        at = lay_number(buffer, at, u16::from(column));
+        text.bytes(b" n");
+        text.number(column as u16);
     }
-    lay_byte(buffer, at, b'\n')
+    text.bytes(b"\n");
 }
 
 // Lays the next states of a state, each with a space before it.
-fn lay_nexts(buffer: &mut [u8], at: usize, rows: &Rows, state: u16) -> usize
-    requires few { rows.now.places ≤ 4 }
-    requires fits { at + 96 < 2 ^ 64 }
-    ensures lays { Lays (nexts_of (described rows.now) state (2 ^ rows.now.places)) at buffer.old buffer.new result }
-    ensures short { result ≤ at + 96 }
+fn lay_nexts(text: &mut Text, rows: &Rows, state: u16)
+    ensures { Lays (nexts_of (described rows.now) state (2 ^ rows.now.places)) text.old text.new }
 {
-    let mut end = at;
-    let columns = 1u8 << rows.places;
+    let columns = rows.columns();
     for column in 0..columns {
-        end = lay_byte(buffer, end, b' ');
-        end = lay_number(buffer, end, rows.step(state, column));
+        text.byte(b' ');
+        text.number(rows.step(state, column as u8));
     }
-    end
 }
 
 // Lays the line of a state.
-fn lay_row(buffer: &mut [u8], at: usize, rows: &Rows, state: u16) -> usize
-    requires few { rows.now.places ≤ 4 }
-    requires fits { at + 108 < 2 ^ 64 }
-    ensures lays { Lays (row_line (described rows.now) state) at buffer.old buffer.new result }
-    ensures short { result ≤ at + 108 }
+fn lay_row(text: &mut Text, rows: &Rows, state: u16)
+    ensures { Lays (row_line (described rows.now) state) text.old text.new }
 {
-    let mut end = lay_number(buffer, at, state);
-    end = lay_byte(buffer, end, b' ');
-    end = lay_number(buffer, end, u16::from(rows.accepts(state)));
-    end = lay_nexts(buffer, end, rows, state);
-    lay_byte(buffer, end, b'\n')
+    text.number(state);
+    text.byte(b' ');
+    text.number(u16::from(rows.accepts(state)));
+    lay_nexts(text, rows, state);
+    text.byte(b'\n');
 }
 
-// Lays the whole text at the front, and answers its length.
+// Lays the whole text at the front of a buffer, and answers its length.
 fn lay_table(buffer: &mut [u8], rows: &Rows) -> usize
-    requires few { rows.now.places ≤ 4 }
-    ensures { Lays (rows_text rows.now) 0 buffer.old buffer.new result }
+    ensures { LaysWhole (rows_text rows.now) buffer.old buffer.new result }
 {
-    let mut at = lay_names(buffer, rows.places);
+    let mut text = Text { buffer, end: 0 };
+    lay_names(&mut text, rows);
     for state in 0..rows.states {
-        at = lay_row(buffer, at, rows, state);
+        lay_row(&mut text, rows, state);
     }
-    at
+    text.end
 }
 
 /// Writes the text of a table at the front of a buffer, and answers its length. A refused call changes nothing. The text

@@ -1,38 +1,40 @@
 -- Settled classes, their numbers and the rows written from them are a merging.
-use Rattle.std.proofs.Common.{◌≡◌, ℕ, ◌+◌, ◌*◌, ◌^◌, ◌<◌, List, drop, sym, ap, ◌∙◌, arith}
-use Rattle.std.proofs.lemmas.List.{get_or-drop}
-use Rattle.words.specs.Rows.{width}
+use Rattle.std.proofs.Common.{◌≡◌, ℕ, ◌^◌, ◌<◌, List, slice_index, sym, ap, ◌∙◌, arith}
+use Rattle.words.specs.Described.{described}
 use Rattle.words.specs.declared.rows.Rows.{Rows}
 use Rattle.words.proofs.Merging.{class_alike}
-use Rattle.tables.specs.Classing.{described, class_of, Closed, Classed, Settled}
-use Rattle.tables.specs.Numbered.{Numbered, Wrote}
 use Rattle.tables.specs.Merged.{Merged}
+use Rattle.tables.specs.Numbered.{Numbered, Wrote}
+use Rattle.tables.specs.Refined.{Settled}
+use Rattle.tables.specs.declared.merging.Classes.{Classes}
 
-module _ (r : Rows) (class numbers leaders out out' : List ℕ) (count base : ℕ) (closed : Closed r) (classes : Classed r class)
-    (settled : (c : ℕ) → c < 2 ^ r.places → Settled r class c)
-    (numbered : Numbered (class_of class) r.states (class_of numbers) (class_of leaders) count)
-    (wrote : Wrote (described r) r.places (class_of numbers) (class_of leaders) count base out out')
+module _ (k : Classes) (numbers leaders : List ℕ) (count : ℕ) (settled : (c : ℕ) → c < 2 ^ k.rows.places → Settled k c)
+    (numbered : Numbered (slice_index k.class.now) k.rows.states (slice_index numbers) (slice_index leaders) count)
   where
-    one_class : (s t : ℕ) → s < r.states → t < r.states → class_of numbers s ≡ class_of numbers t → class_of class s ≡ class_of class t
-    one_class s t hs ht e = sym (numbered.leads s hs) ∙ ap (class_of leaders) e ∙ numbered.leads t ht
+    one_class : (s t : ℕ) → s < k.rows.states → t < k.rows.states → slice_index numbers s ≡ slice_index numbers t → slice_index k.class.now s ≡ slice_index k.class.now t
+    one_class s t hs ht e = sym (numbered.leads s hs) ∙ ap (slice_index leaders) e ∙ numbered.leads t ht
 
-    one_number : (s t : ℕ) → s < r.states → t < r.states → class_of class s ≡ class_of class t → class_of numbers s ≡ class_of numbers t
+    one_number : (s t : ℕ) → s < k.rows.states → t < k.rows.states → slice_index k.class.now s ≡ slice_index k.class.now t → slice_index numbers s ≡ slice_index numbers t
     one_number s t hs ht e =
-        sym (numbered.leader_number (class_of numbers s) (numbered.number_kept s hs))
-        ∙ ap (class_of numbers) (numbered.leads s hs ∙ e ∙ sym (numbered.leads t ht))
-        ∙ numbered.leader_number (class_of numbers t) (numbered.number_kept t ht)
+        sym (numbered.leader_number (slice_index numbers s) (numbered.number_kept s hs))
+        ∙ ap (slice_index numbers) (numbered.leads s hs ∙ e ∙ sym (numbered.leads t ht))
+        ∙ numbered.leader_number (slice_index numbers t) (numbered.number_kept t ht)
 
-    pub merged : Merged r.places r.states r.cells.now count (drop base out')
-    merged = record {
-      into = class_of numbers;
-      low = class_of leaders;
-      into_kept = numbered.number_kept;
-      low_met = numbered.leader_below;
-      low_into = numbered.leader_number;
-      lowest = λ s h. omega (arith, numbered.leads s h, classes.low s h);
-      rising = numbered.rising;
-      alike = λ s t hs ht e. class_alike r.places (described r) r.states (class_of class) classes closed settled s t hs ht (one_class s t hs ht e);
-      apart = λ s t hs ht same. one_number s t hs ht (classes.keeps s t hs ht same);
-      next = λ k c hk hc. get_or-drop base out' (k * width r.places + c) 0 ∙ wrote.next k c hk hc;
-      mark = λ k hk. get_or-drop base out' (k * width r.places + 2 ^ r.places) 0 ∙ wrote.mark k hk;
-    }
+    pub merged : {r : Rows} {out out' : List ℕ} → k.rows ≡ r → Wrote (described r) r.places (slice_index numbers) (slice_index leaders) count out out'
+        → Merged r.places r.states r.cells.now count out'
+    merged {r} {out} {out'} is wrote =
+        let here : Wrote (described k.rows) k.rows.places (slice_index numbers) (slice_index leaders) count out out' = rw is wrote in
+        rw (← is) record {
+          into = slice_index numbers;
+          low = slice_index leaders;
+          into_kept = numbered.number_kept;
+          low_met = numbered.leader_below;
+          low_into = numbered.leader_number;
+          lowest = λ s h. omega (arith, numbered.leads s h, k.classed.low s h);
+          rising = numbered.rising;
+          alike = λ s t hs ht e.
+              class_alike _ _ _ _ k.classed k.closed settled s t hs ht (one_class s t hs ht e);
+          apart = λ s t hs ht same. one_number s t hs ht (k.classed.keeps s t hs ht same);
+          next = here.next;
+          mark = here.mark;
+        }

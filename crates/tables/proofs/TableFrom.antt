@@ -4,7 +4,7 @@ use Rattle.std.proofs.lemmas.Bool.{cases_lt}
 use Rattle.words.specs.Words.{Columns}
 use Rattle.words.specs.Order.{NotLater, Precedes}
 use Rattle.words.specs.Automata.{Moves, run, reach, language}
-use Rattle.words.specs.Rows.{written, next_of}
+use Rattle.words.specs.Rows.{written}
 use Rattle.words.specs.Residuals.{SameResidual}
 use Rattle.words.specs.TableOf.{TableOf}
 use Rattle.words.proofs.Orders.{chain}
@@ -15,11 +15,8 @@ use Rattle.tables.specs.Merged.{Merged}
 
 module _ {S : Type 0} (m : Moves S) (n met : ℕ) (records : List S) (links raw : List ℕ) (e : Explored m n met records links raw) where
   -- within the explored states the written automaton goes as the kind does
-  step_is : (s c : ℕ) → s < met → c < 2 ^ n → (written n met raw).step s c ≡ next_of n raw s c
-  step_is = step_inside n met raw
-
-  pub closed_rows : (s c : ℕ) → s < met → c < 2 ^ n → (written n met raw).step s c < met
-  closed_rows s c hs hc = subst (λ x. x < met) (sym (step_is s c hs hc)) (e.next s c hs hc).0
+  closed_rows : (s c : ℕ) → s < met → c < 2 ^ n → (written n met raw).step s c < met
+  closed_rows s c hs hc = subst (λ x. x < met) (sym (step_inside n met raw s c hs hc)) (e.next s c hs hc).0
 
   accepts_is : (s : ℕ) → s < met → (written n met raw).accepts s ≡ m.final (record_of m records s)
   accepts_is s h = accepts_inside n met raw s (m.final (record_of m records s)) h (e.mark s h)
@@ -28,7 +25,7 @@ module _ {S : Type 0} (m : Moves S) (n met : ℕ) (records : List S) (links raw 
       → (run (written n met raw).step s v < met) × (record_of m records (run (written n met raw).step s v) ≡ run m.next (record_of m records s) v)
   beside =
       side n met (written n met raw).step m.next (record_of m records)
-      (λ s c h hc. (closed_rows s c h hc, ap (record_of m records) (step_is s c h hc) ∙ (e.next s c h hc).1))
+      (λ s c h hc. (closed_rows s c h hc, ap (record_of m records) (step_inside n met raw s c h hc) ∙ (e.next s c h hc).1))
 
   -- a word that leads to record s is completed as s is
   completes : (u : List ℕ) (s : ℕ) → s < met → reach m u ≡ record_of m records s → (v : List ℕ) → Columns n v
@@ -101,7 +98,7 @@ module _ {S : Type 0} (m : Moves S) (n met : ℕ) (records : List S) (links raw 
           let t : ℕ = (written n met raw).step s c in
           let ht : t < met = closed_rows s c hs hc in
           let there : reach m (first k ++ c ∷ []) ≡ record_of m records t =
-          run_push m.next m.start (first k) c ∙ ap (λ x. m.next x c) (leads k hk) ∙ sym (e.next s c hs hc).1 ∙ ap (record_of m records) (sym (step_is s c hs hc)) in (
+          run_push m.next m.start (first k) c ∙ ap (λ x. m.next x c) (leads k hk) ∙ sym (e.next s c hs hc).1 ∙ ap (record_of m records) (sym (step_inside n met raw s c hs hc)) in (
             subst (λ x. x < kept) (sym (g.next k c hk hc)) (g.into_kept t ht),
             subst (λ x. SameResidual n (language m) (first k ++ c ∷ []) (first x)) (sym (g.next k c hk hc)) (residual (first k ++ c ∷ []) t ht there),
           );

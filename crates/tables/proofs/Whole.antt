@@ -1,5 +1,5 @@
 -- A chart whose rows are all whole is an exploration.
-use Rattle.std.proofs.Common.{◌≡◌, ℕ, ◌^◌, ◌<◌, List, sym, refl, ap, ◌∙◌, subst, inl}
+use Rattle.std.proofs.Common.{◌≡◌, ℕ, ◌^◌, ◌<◌, List, sym, refl, ap, ◌∙◌, subst, inl, Ok, arith}
 use Rattle.words.specs.Words.{Columns}
 use Rattle.words.specs.Order.{NotLater}
 use Rattle.words.specs.Automata.{Moves, run, reach, SameReach}
@@ -8,8 +8,10 @@ use Rattle.words.specs.Links.{parent_of, column_of}
 use Rattle.words.specs.Residuals.{Count, Equality}
 use Rattle.words.proofs.Runs.{side}
 use Rattle.words.proofs.Numbering.{trail_columns, trail_leads, trails_ordered, trail_earliest}
-use Rattle.tables.specs.Chart.{Chart}
+use Rattle.tables.specs.Chart.{Chart, Onward, Finds, moves_of}
 use Rattle.tables.specs.Explored.{Explored, record_of, word_of}
+use Rattle.tables.specs.declared.kind.Kind.{Ghosts}
+use Rattle.tables.specs.declared.exploration.Search.{Search}
 
 module _ {S : Type 0} (m : Moves S) (n met : ℕ) (records : List S) (links rows : List ℕ) (chart : Chart m n met 0 met records links rows) where
   stays : (j c : ℕ) → j < met → c < 2 ^ n → next_of n rows j c < met
@@ -55,6 +57,13 @@ explored_count m n met records links rows e = record {
   different = λ i j hi hj same. e.different i j hi hj (sym (e.leads i hi) ∙ same ∙ e.leads j hj);
   every = λ w cs. let x = e.every w cs in (x.0, x.1, x.2 ∙ sym (e.leads x.0 x.1));
 }
+
+-- a search that looked at all its records has found the states
+pub all_found : {K S : Type 0} {g : Ghosts K S} (s s' : Search K S g) → Onward s s' → (at : ℕ) → at ≡ s'.met
+    → Chart (g.moves s'.kind.now) s'.limits.sets at 0 s'.met s'.records.now s'.links.now s'.rows.now → Finds s s' (Ok s'.met)
+all_found {g = g} s s' onward at end chart =
+    let all = whole (g.moves s.kind.now) s.limits.sets s'.met s'.records.now s'.links.now s'.rows.now (rw (onward.kind, onward.limits, end) at chart) in
+    (omega (arith, s'.few, ap (λ l. l.budget) onward.limits), all, explored_count (moves_of s) s.limits.sets s'.met s'.records.now s'.links.now s'.rows.now all)
 
 pub reach_equality : {S : Type 0} (m : Moves S) → Equality (SameReach m)
 reach_equality m = record {

@@ -1,7 +1,9 @@
 pub mod Room
 pub mod Chart
 pub mod Explored
+pub mod Messages
 pub mod Classing
+pub mod Refined
 pub mod Merged
 pub mod Numbered
 pub mod Tabulated

@@ -1,124 +1,13 @@
 //! Exploration, breadth first: one text for every kind of state.
-ghost use Rattle.std.specs.Prelude.{◌≡◌, ℕ, ◌+◌, ◌*◌, ◌^◌, ◌<◌, ◌≤◌, length, Decides, MatchOption, ◌≢◌, slice_index_or};
-ghost use Rattle.tables.specs.Chart.{Chart, Meets, Extends};
-ghost use Rattle.tables.specs.Room.{Room};
+ghost use Rattle.std.specs.Prelude.{◌≡◌, ◌+◌, ◌^◌, ◌<◌, ◌≤◌, length, MatchOption};
 ghost use Rattle.tables.specs.Explored.{Explores, Past};
+ghost use Rattle.tables.specs.Room.{Room, SameOwners};
 
 use crate::kind::Kind;
-use words::{nth_column, put};
-
-// The record of a state, among the first `met` records. It looks at each of them.
-fn find<K: Kind>(kind: &K, records: &[K::State], met: usize, sought: K::State) -> Option<usize>
-    requires { met ≤ length records.now }
-    ensures { MatchOption result ((j : ℕ) → j < met → slice_index_or records.now j (K.Kind.moves kind.now).start ≢ sought) (λ j. (j < met) × (slice_index_or records.now j (K.Kind.moves kind.now).start ≡ sought)) }
-{
-    for j in 0..met {
-        if kind.same(records[j], sought) {
-            return Some(j);
-        }
-    }
-    None
-}
-
-// Where a column leads: the record of the state, and how many records there are now.
-#[derive(Clone, Copy)]
-struct Step {
-    to: usize,
-    met: usize,
-}
-
-// Follows a column from record `at`. A state that was not met before is recorded, with its parent and the column;
-// none where it has no room.
-fn follow<K: Kind>(
-    kind: &K,
-    budget: usize,
-    at: usize,
-    column: u8,
-    met: usize,
-    records: &mut [K::State],
-    links: &mut [u16],
-) -> Option<Step>
-    requires here { at < met }
-    requires few { met ≤ budget }
-    requires small { budget ≤ 512 }
-    requires records_enough { budget ≤ length records.old }
-    requires links_enough { 8 * budget ≤ length links.old }
-    ensures { Meets (K.Kind.moves kind.now) budget at column met records.old links.old records.new links.new result }
-{
-    let next = kind.step(records[at], column);
-    if let Some(to) = find(kind, records, met, next) {
-        return Some(Step { to, met });
-    }
-    if met == budget {
-        return None;
-    }
-    records[met] = next;
-    links[2 * met] = at as u16;
-    links[2 * met + 1] = u16::from(column);
-    Some(Step {
-        to: met,
-        met: met + 1,
-    })
-}
-
-// Looks at the k-th column of record `at`, and writes where it leads.
-fn explore_column<K: Kind>(
-    kind: &K,
-    sets: u8,
-    budget: usize,
-    at: usize,
-    k: usize,
-    met: usize,
-    records: &mut [K::State],
-    links: &mut [u16],
-    rows: &mut [u16],
-) -> Option<usize>
-    requires room { Room sets budget (length records.old) (length links.old) (length rows.old) }
-    requires chart { Chart (K.Kind.moves kind.now) sets at k met records.old links.old rows.old }
-    requires here { at < met }
-    requires few { met ≤ budget }
-    requires left { k < 2 ^ sets }
-    ensures chart { Extends (K.Kind.moves kind.now) sets budget at (k + 1) met records.new links.new rows.new result }
-    ensures past { Past sets budget rows.old rows.new }
-{
-    let columns = 1usize << sets;
-    let column = nth_column(sets, k);
-    let step = follow(kind, budget, at, column, met, records, links)?;
-    put(
-        rows,
-        at * (columns + 1) + usize::from(column),
-        step.to as u16,
-    );
-    Some(step.met)
-}
-
-// Looks at all columns of record `at`, in their order, and writes its row and its mark.
-fn explore_row<K: Kind>(
-    kind: &K,
-    sets: u8,
-    budget: usize,
-    at: usize,
-    met: usize,
-    records: &mut [K::State],
-    links: &mut [u16],
-    rows: &mut [u16],
-) -> Option<usize>
-    requires room { Room sets budget (length records.old) (length links.old) (length rows.old) }
-    requires chart { Chart (K.Kind.moves kind.now) sets at 0 met records.old links.old rows.old }
-    requires here { at < met }
-    requires few { met ≤ budget }
-    ensures chart { Extends (K.Kind.moves kind.now) sets budget (at + 1) 0 met records.new links.new rows.new result }
-    ensures past { Past sets budget rows.old rows.new }
-{
-    let columns = 1usize << sets;
-    let mut now_met = met;
-    for k in 0..columns {
-        now_met = explore_column(kind, sets, budget, at, k, now_met, records, links, rows)?;
-    }
-    let accepts = kind.accepts(records[at]);
-    put(rows, at * (columns + 1) + columns, u16::from(accepts));
-    Some(now_met)
-}
+use crate::memory::{Limits, Memory};
+use std::error::Error;
+use std::fmt;
+use words::nth_column;
 
 /// Why an exploration ended without a table.
 #[derive(Clone, Copy, PartialEq, Eq, Debug)]
@@ -129,15 +18,117 @@ pub enum Unexplored {
     TooMany,
 }
 
-// Whether the memory is enough for so many states over so many sets.
-pub(crate) fn has_room(sets: u8, budget: usize, records: usize, links: usize, rows: usize) -> bool
-    ensures { Decides result (Room sets budget records links rows) }
-{
-    if sets > 8 || budget < 1 || budget > 512 {
-        return false;
+impl fmt::Display for Unexplored {
+    ghost use Rattle.std.specs.Prelude.{Some};
+    ghost use Rattle.tables.specs.Messages.{unexplored_text};
+
+    ghost output = { λ why. Some (unexplored_text why) };
+
+    fn fmt<W: fmt::Write>(&self, f: &mut fmt::Formatter<W>) -> fmt::Result {
+        match self {
+            Unexplored::NoRoom => f.write_str("the memory or the limits leave no room to explore"),
+            Unexplored::TooMany => f.write_str("more states than the budget are reached"),
+        }
     }
-    let width = (1usize << sets) + 1;
-    records >= budget && links >= 8 * budget && rows >= budget * width
+}
+
+impl Error for Unexplored {}
+
+// An exploration under way: the kind and the limits, the memory that it was lent, and how many states were met.
+#[derive(Drop)]
+struct Search<'s, K: Kind> {
+    kind: &'s K,
+    limits: Limits,
+    records: &'s mut [K::State],
+    links: &'s mut [u16],
+    rows: &'s mut [u16],
+    met: usize,
+    ghost room: { Room limits.sets limits.budget (length records.now) (length links.now) (length rows.now) },
+    ghost few: { met ≤ limits.budget },
+}
+
+impl<K: Kind> Search<'_, K> {
+    ghost use Rattle.tables.specs.Chart.{state_of, New, Charts, Extends, Finds, Follows, Onward};
+
+    // The record of a state, among those met so far. It looks at each of them.
+    fn find(&self, sought: K::State) -> Option<usize>
+        ensures { MatchOption result (New self.now sought) (λ j. (j < self.now.met) × (state_of self.now j ≡ sought)) }
+    {
+        self.records[..self.met]
+            .iter()
+            .position(|record| self.kind.same(*record, sought))
+    }
+
+    // The record to which a column leads from record `at`. A state that was not met before is recorded, with its parent
+    // and the column.
+    fn follow(&mut self, at: usize, column: u8) -> Result<usize, Unexplored>
+        requires { at < self.old.met }
+        ensures onward { Onward self.old self.new }
+        ensures rows { self.new.rows.now ≡ self.old.rows.now }
+        ensures follows { Follows self.old at column self.new result }
+    {
+        let next = self.kind.step(self.records[at], column);
+        if let Some(to) = self.find(next) {
+            return Ok(to);
+        }
+        if self.met == self.limits.budget {
+            return Err(Unexplored::TooMany);
+        }
+        let new = self.met;
+        self.records[new] = next;
+        self.links[2 * new] = at as u16;
+        self.links[2 * new + 1] = u16::from(column);
+        self.met += 1;
+        Ok(new)
+    }
+
+    // Looks at the k-th column of record `at`, and writes where it leads.
+    #[tactic(auto, using(crate::proofs::Steps::column_inside, crate::proofs::Steps::column_over))]
+    fn explore_column(&mut self, at: usize, k: usize) -> Result<(), Unexplored>
+        requires chart { Charts self.old at k }
+        requires here { at < self.old.met }
+        requires left { k < 2 ^ self.old.limits.sets }
+        ensures onward { Onward self.old self.new }
+        ensures extends { Extends self.old at (k + 1) self.new result }
+    {
+        let column = nth_column(self.limits.sets, k);
+        let to = self.follow(at, column)?;
+        let width = self.limits.width();
+        self.rows[at * width + usize::from(column)] = to as u16;
+        Ok(())
+    }
+
+    // Looks at all columns of record `at`, in their order, and writes its row and its mark.
+    fn explore_row(&mut self, at: usize) -> Result<(), Unexplored>
+        requires chart { Charts self.old at 0 }
+        requires here { at < self.old.met }
+        ensures onward { Onward self.old self.new }
+        ensures extends { Extends self.old (at + 1) 0 self.new result }
+    {
+        let columns = self.limits.columns();
+        for k in 0..columns {
+            self.explore_column(at, k)?;
+        }
+        let accepts = self.kind.accepts(self.records[at]);
+        self.rows[at * (columns + 1) + columns] = u16::from(accepts);
+        Ok(())
+    }
+
+    // Looks at all records in their order, also at those that are met on the way, and answers how many there are.
+    #[tactic(auto, using(crate::proofs::Whole::all_found))]
+    fn explore_all(&mut self) -> Result<usize, Unexplored>
+        requires { Charts self.old 0 0 }
+        ensures onward { Onward self.old self.new }
+        ensures finds { Finds self.old self.new result }
+    {
+        for at in 0..self.limits.budget {
+            if at == self.met {
+                break;
+            }
+            self.explore_row(at)?;
+        }
+        Ok(self.met)
+    }
 }
 
 /// Explores a kind of state, breadth first from its start, columns in their order, and writes for each state met its
@@ -146,27 +137,24 @@ pub(crate) fn has_room(sets: u8, budget: usize, records: usize, links: usize, ro
 /// Each state is sought among those met so far, so that m states over c columns cost at most m * m * c comparisons.
 pub fn explore<K: Kind>(
     kind: &K,
-    sets: u8,
-    budget: usize,
-    records: &mut [K::State],
-    links: &mut [u16],
-    rows: &mut [u16],
+    limits: Limits,
+    memory: &mut Memory<K::State>,
 ) -> Result<usize, Unexplored>
-    ensures found { Explores (K.Kind.moves kind.now) sets budget records.old links.old rows.old records.new links.new rows.new result }
-    ensures past { Past sets budget rows.old rows.new }
+    ensures found { Explores (K.Kind.moves kind.now) limits.sets limits.budget memory.old.records.now memory.old.links.now memory.old.rows.now memory.new.records.now memory.new.links.now memory.new.rows.now result }
+    ensures owners { SameOwners memory.old memory.new }
+    ensures past { Past limits.sets limits.budget memory.old.rows.now memory.new.rows.now }
 {
-    if !has_room(sets, budget, records.len(), links.len(), rows.len()) {
+    if !memory.has_room(limits) {
         return Err(Unexplored::NoRoom);
     }
-    records[0] = kind.start();
-    let mut met = 1;
-    let mut at = 0;
-    while at < met {
-        match explore_row(kind, sets, budget, at, met, records, links, rows) {
-            Some(more) => met = more,
-            None => return Err(Unexplored::TooMany),
-        }
-        at += 1;
-    }
-    Ok(met)
+    memory.records[0] = kind.start();
+    let mut search = Search {
+        kind,
+        limits,
+        records: memory.records,
+        links: memory.links,
+        rows: memory.rows,
+        met: 1,
+    };
+    search.explore_all()
 }

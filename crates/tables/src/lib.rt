@@ -5,6 +5,7 @@ mod exploration;
 mod kind;
 mod laws;
 mod listed;
+mod memory;
 mod merging;
 mod pairs;
 mod tabulation;
@@ -13,6 +14,7 @@ pub use exploration::{Unexplored, explore};
 pub use kind::Kind;
 pub use laws::laws_of_counts;
 pub use listed::Listed;
+pub use memory::{Limits, Memory};
 pub use pairs::{Join, Pairs};
 pub use tabulation::{Counts, tabulate};
 
@@ -20,6 +22,15 @@ pub use tabulation::{Counts, tabulate};
 mod tests {
     use super::*;
     use words::Rows;
+
+    // The rows of three states over two sets.
+    fn three_states(cells: &[u16]) -> Rows {
+        Rows {
+            places: 2,
+            states: 3,
+            cells,
+        }
+    }
 
     // Tabulates an automaton over one set, with the table from place 2 on in memory that is filled with 9.
     fn tabled(
@@ -34,17 +45,16 @@ mod tests {
                 cells,
             },
         };
-        let mut records = [0u16; 8];
-        let mut links = [0u16; 64];
-        let mut spare = [0u16; 24];
+        let mut memory = Memory {
+            records: &mut [0u16; 8],
+            links: &mut [0u16; 64],
+            rows: &mut [0u16; 24],
+        };
         let mut tables = [9u16; 32];
         let counts = tabulate(
             &kind,
-            1,
-            budget,
-            &mut records,
-            &mut links,
-            &mut spare,
+            Limits { sets: 1, budget },
+            &mut memory,
             &mut tables,
             2,
         );
@@ -101,35 +111,22 @@ mod tests {
     fn pairs(rt: HostRuntime) {
         let first = [0, 1, 0, 1, 0, 1, 2, 1, 2, 1, 2, 2, 2, 2, 0];
         let second = [0, 0, 1, 1, 0, 1, 1, 2, 2, 1, 2, 2, 2, 2, 0];
-        let lower = Rows {
-            places: 2,
-            states: 3,
-            cells: &first,
-        };
-        let upper = Rows {
-            places: 2,
-            states: 3,
-            cells: &second,
-        };
         let kind = Pairs {
-            lower,
-            upper,
+            lower: three_states(&first),
+            upper: three_states(&second),
             join: Join::Both,
         };
-        let mut records = [(0u16, 0u16); 16];
-        let mut links = [0u16; 128];
-        let mut spare = [0u16; 80];
+        let mut memory = Memory {
+            records: &mut [(0u16, 0u16); 16],
+            links: &mut [0u16; 128],
+            rows: &mut [0u16; 80],
+        };
         let mut tables = [0u16; 80];
-        let counts = tabulate(
-            &kind,
-            2,
-            16,
-            &mut records,
-            &mut links,
-            &mut spare,
-            &mut tables,
-            0,
-        );
+        let limits = Limits {
+            sets: 2,
+            budget: 16,
+        };
+        let counts = tabulate(&kind, limits, &mut memory, &mut tables, 0);
         assert_eq!(rt; counts, Ok(Counts { met: 9, kept: 5 }));
     }
 }

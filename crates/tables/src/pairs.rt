@@ -47,6 +47,6 @@ impl<'l, 'u> Kind for Pairs<'l, 'u> {
     }
 
     fn same(&self, a: (u16, u16), b: (u16, u16)) -> bool {
-        a.0 == b.0 && a.1 == b.1
+        a == b
     }
 }

@@ -1,13 +1,15 @@
 //! From a kind of state to the table of the words that it accepts.
-ghost use Rattle.std.specs.Prelude.{◌≡◌, ℕ, ◌+◌, ◌*◌, ◌^◌, ◌<◌, ◌≤◌, length, drop, Decides};
-ghost use Rattle.words.specs.Rows.{width, written};
+ghost use Rattle.std.specs.Prelude.{◌+◌, ◌*◌, ◌≤◌, length, drop, Decides};
+ghost use Rattle.words.specs.Rows.{width};
+ghost use Rattle.tables.specs.Classing.{Closed};
 ghost use Rattle.tables.specs.Explored.{Past};
 ghost use Rattle.tables.specs.Merged.{Merged};
-ghost use Rattle.tables.specs.Room.{Room};
+ghost use Rattle.tables.specs.Room.{SameOwners};
 ghost use Rattle.tables.specs.Tabulated.{Elsewhere, Tabulates};
 
-use crate::exploration::{Unexplored, explore, has_room};
+use crate::exploration::{Unexplored, explore};
 use crate::kind::Kind;
+use crate::memory::{Limits, Memory};
 use crate::merging::merge_states;
 use words::Rows;
 
@@ -19,74 +21,64 @@ pub struct Counts {
 }
 
 // Whether there is a slot for a table of so many states from `base` on.
-fn has_slot(sets: u8, budget: usize, tables: usize, base: usize) -> bool
-    requires sets { sets ≤ 8 }
-    requires few { budget ≤ 512 }
-    ensures { Decides result (base + budget * width sets ≤ tables) }
+fn has_slot(limits: Limits, tables: &[u16], base: usize) -> bool
+    requires sets { limits.sets ≤ 8 }
+    requires few { limits.budget ≤ 512 }
+    ensures { Decides result (base + limits.budget * width limits.sets ≤ length tables.now) }
 {
-    let width = (1usize << sets) + 1;
-    tables >= base && tables - base >= budget * width
+    tables
+        .get(base..)
+        .is_some_and(|slot| slot.len() >= limits.budget * limits.width())
 }
 
 // Merges explored rows; the links past those of the records are its work memory.
 fn merge_rows(
-    sets: u8,
+    raw: &Rows,
     budget: usize,
-    met: usize,
     links: &mut [u16],
-    raw: &[u16],
     tables: &mut [u16],
     base: usize,
 ) -> usize
-    requires sets { sets ≤ 8 }
-    requires few { (met ≤ budget) × (budget ≤ 512) }
+    requires few { (raw.now.states ≤ budget) × (budget ≤ 512) }
     requires links { 8 * budget ≤ length links.old }
-    requires closed { (s c : ℕ) → s < met → c < 2 ^ sets → (written sets met raw.now).step s c < met }
-    requires slot { base + budget * width sets ≤ length tables.old }
-    ensures few { result ≤ met }
-    ensures merged { Merged sets met raw.now result (drop base tables.new) }
-    ensures elsewhere { Elsewhere base (result * width sets) tables.old tables.new }
+    requires closed { Closed raw.now }
+    requires slot { base + budget * width raw.now.places ≤ length tables.old }
+    ensures few { result ≤ raw.now.states }
+    ensures merged { Merged raw.now.places raw.now.states raw.now.cells.now result (drop base tables.new) }
+    ensures elsewhere { Elsewhere base (result * width raw.now.places) tables.old tables.new }
 {
-    let rows = Rows {
-        places: sets,
-        states: met as u16,
-        cells: raw,
-    };
     let (_parents, rest) = links.split_at_mut(2 * budget);
     let (class, rest) = rest.split_at_mut(budget);
     let (fresh, numbers) = rest.split_at_mut(budget);
-    usize::from(merge_states(&rows, class, fresh, numbers, tables, base))
+    usize::from(merge_states(raw, class, fresh, numbers, tables, base))
 }
 
 /// Explores a kind of state and merges what no word tells apart: writes the table of the words that the kind accepts
 /// from `base` on in `tables`, one row for each residual, and answers the two counts.
 ///
-/// Records and links are work memory, and so is `spare`, which holds the raw rows. The cost is that of `explore`, and
-/// then at most one look for each pair of states and column in each round that splits a class.
+/// The memory is work memory: its rows hold the raw rows. The cost is that of `explore`, and then at most one look for
+/// each pair of states and column in each round that splits a class.
 pub fn tabulate<K: Kind>(
     kind: &K,
-    sets: u8,
-    budget: usize,
-    records: &mut [K::State],
-    links: &mut [u16],
-    spare: &mut [u16],
+    limits: Limits,
+    memory: &mut Memory<K::State>,
     tables: &mut [u16],
     base: usize,
 ) -> Result<Counts, Unexplored>
-    ensures found { Tabulates (K.Kind.moves kind.now) sets budget base records.old links.old spare.old tables.old records.new links.new spare.new tables.new result }
-    ensures past { Past sets budget spare.old spare.new }
+    ensures found { Tabulates (K.Kind.moves kind.now) limits.sets limits.budget base memory.old.records.now memory.old.links.now memory.old.rows.now tables.old memory.new.records.now memory.new.links.now memory.new.rows.now tables.new result }
+    ensures owners { SameOwners memory.old memory.new }
+    ensures past { Past limits.sets limits.budget memory.old.rows.now memory.new.rows.now }
 {
-    if !has_room(sets, budget, records.len(), links.len(), spare.len()) {
+    if !memory.has_room(limits) || !has_slot(limits, tables, base) {
         return Err(Unexplored::NoRoom);
     }
-    if !has_slot(sets, budget, tables.len(), base) {
-        return Err(Unexplored::NoRoom);
-    }
-    match explore(kind, sets, budget, records, links, spare) {
-        Ok(met) => {
-            let kept = merge_rows(sets, budget, met, links, spare, tables, base);
-            Ok(Counts { met, kept })
-        }
-        Err(why) => Err(why),
-    }
+    let met = explore(kind, limits, memory)?;
+    let rows = &mut *memory.rows;
+    let raw = Rows {
+        places: limits.sets,
+        states: met as u16,
+        cells: rows,
+    };
+    let kept = merge_rows(&raw, limits.budget, memory.links, tables, base);
+    Ok(Counts { met, kept })
 }

@@ -2,7 +2,7 @@
 use Rattle.std.proofs.Common.{◌≡◌, ℕ, suc, ◌+◌, ◌*◌, ◌<◌, ◌≤◌, Bool, ◌⊎◌, List, length, get_or, set, Decides, sym, refl, ap, ◌∙◌, subst, inl, inr, mul-le-mul_right, arith}
 use native.Mathlib.Bridge.{le_prop}
 use mathlib.Core.Logic.{∥∥₁_elim, ∥∥₁_map}
-use Rattle.std.proofs.lemmas.List.{get_or-drop, get_or-set_same, get_or-set_other, length-set}
+use Rattle.std.proofs.lemmas.List.{get_or-drop, get_or-set_same, get_or-set_other}
 use Rattle.std.proofs.lemmas.Bool.{cases_lt}
 use Rattle.std.proofs.lemmas.Bool.Decides.{same_from_decides}
 use Rattle.words.specs.Words.{Columns, coded}
@@ -15,13 +15,10 @@ use Rattle.words.proofs.Copies.{copied_answers, copied_table}
 use Rattle.words.proofs.TableLaws.{table_counts}
 use Rattle.tray.specs.declared.control.Control.{Control}
 use Rattle.tray.specs.declared.tray.Tray.{Tray}
-use Rattle.tray.specs.View.{slot, size_of, rows_of, says, Stands}
+use Rattle.tray.specs.View.{slot, size_of, rows_of, moved, Within, says, Stands}
 use Rattle.tray.specs.Building.{Built}
-use Rattle.tray.specs.Landing.{Lands}
-
--- the control record with other tables
-abbrev pub moved : Control → ℕ → List ℕ → Control
-moved c count sizes = record { sets = c.sets; budget = c.budget; depth = c.depth; count = count; sizes = sizes }
+use Rattle.tray.proofs.Checking.{within_slots}
+use Rattle.tray.proofs.Landings.{Lands}
 
 -- a truncated table still fits its slot
 pub fits_slot : (c : Control) (tables : List ℕ) (k : ℕ) → ∥ Stands c tables k ∥₁ → size_of c k ≤ c.budget
@@ -129,63 +126,25 @@ module _ (c : Control) (tables tables' : List ℕ) (below : ℕ) (Same : List �
           elsewhere = (landed.elsewhere.0, λ i h. landed.elsewhere.1 i (omega (arith, wide)));
         }
 
--- ---- what a tray keeps true, as its fields say it
+-- ---- what a tray that can hold a table has room for
 
-abbrev pub Keeps : Control → List ℕ → List ℕ → Type 0
-Keeps c tables spare = record {
-  few_sets : c.sets ≤ 8;
-  few_states : c.budget ≤ 512;
-  few_tables : c.depth ≤ 16;
-  opened : 1 ≤ c.sets → (1 ≤ c.budget) × (1 ≤ c.depth);
-  unopened : c.sets ≡ 0 → (c.budget ≡ 0) × (c.depth ≡ 0);
-  holds : c.count ≤ c.depth;
-  sixteen : length c.sizes ≡ 16;
-  slots : c.depth * slot c ≤ length tables;
-  work : 2 * slot c ≤ length spare;
-  live : (k : ℕ) → k < c.count → ∥ Stands c tables k ∥₁;
-}
+module _ (t : Tray) where
+  -- the slot of a table that it can hold
+  pub slot_within : (k : ℕ) → k < t.control.depth → Within t.control k (length t.tables.now)
+  slot_within k h = record {
+    sets = t.few_sets;
+    budget = t.few_states;
+    there = omega (arith, h, t.few_tables);
+    slots = within_slots t.control.depth k (slot t.control) (length t.tables.now) h t.slots;
+  }
 
-pub keeps : (t : Tray) → Keeps t.control t.tables.now t.spare.now
-keeps t = record {
-  few_sets = t.few_sets;
-  few_states = t.few_states;
-  few_tables = t.few_tables;
-  opened = t.opened;
-  unopened = t.unopened;
-  holds = t.holds;
-  sixteen = t.sixteen;
-  slots = t.slots;
-  work = t.work;
-  live = t.live;
-}
+-- ---- a building call whose new table was copied to its slot owes nothing more: every table stands, and one was built
 
--- a tray with other tables in the same slots
-pub keeps_moved : (t : Tray) (count : ℕ) (sizes tables spare : List ℕ) → count ≤ t.control.depth → length sizes ≡ length t.control.sizes
-    → length tables ≡ length t.tables.now → length spare ≡ length t.spare.now
-    → ((k : ℕ) → k < count → ∥ Stands (moved t.control count sizes) tables k ∥₁) → Keeps (moved t.control count sizes) tables spare
-keeps_moved t count sizes tables spare few sixteen long work live = record {
-  few_sets = t.few_sets;
-  few_states = t.few_states;
-  few_tables = t.few_tables;
-  opened = t.opened;
-  unopened = t.unopened;
-  holds = few;
-  sixteen = sixteen ∙ t.sixteen;
-  slots = subst (λ l. t.control.depth * slot t.control ≤ l) (sym long) t.slots;
-  work = subst (λ l. 2 * slot t.control ≤ l) (sym work) t.work;
-  live = live;
-}
-
--- ---- a building call whose new table lies in its slot owes nothing more
-
-module _ (t : Tray) (below s : ℕ) (Same : List ℕ → List ℕ → Type 0) (Means : List ℕ → Type 0) (tables' spare' : List ℕ) (met size : ℕ)
-    (is : s ≡ slot t.control) (high : below < t.control.depth) (low : below ≤ t.control.count)
-    (landed : Lands t.control.sets t.control.budget (below * s) Same Means t.tables.now tables' met size)
+module _ (t : Tray) (below : ℕ) (Same : List ℕ → List ℕ → Type 0) (Means : List ℕ → Type 0) (high : below < t.control.depth) (low : below ≤ t.control.count)
     (moves : (u w : List ℕ) → Columns t.control.sets u → Columns t.control.sets w → ((i : ℕ) → i < t.control.sets → coded i u ≡ coded i w) → Means u → Means w)
+    (tables' : List ℕ) (met size : ℕ) (landed : Lands t.control.sets t.control.budget (below * slot t.control) Same Means t.tables.now tables' met size)
+    (c' : Control) (is : c' ≡ moved t.control (below + 1) (set t.control.sizes below size))
   where
-    in_slot : Lands t.control.sets t.control.budget (below * slot t.control) Same Means t.tables.now tables' met size
-    in_slot = subst (λ x. Lands t.control.sets t.control.budget (below * x) Same Means t.tables.now tables' met size) is landed
-
     within : below < length t.control.sizes
     within = omega (arith, t.sixteen, t.few_tables)
 
@@ -193,13 +152,12 @@ module _ (t : Tray) (below s : ℕ) (Same : List ℕ → List ℕ → Type 0) (M
     lower k h = t.live k (omega arith)
 
     top : Stands (moved t.control (below + 1) (set t.control.sizes below size)) tables' below
-    top = top_stands t.control t.tables.now tables' below Same Means met size in_slot within moves
+    top = top_stands t.control t.tables.now tables' below Same Means met size landed within moves
 
-    pub built_keeps : length tables' ≡ length t.tables.now → length spare' ≡ length t.spare.now
-        → Keeps (moved t.control (below + 1) (set t.control.sizes below size)) tables' spare'
-    built_keeps long work =
-        keeps_moved t (below + 1) (set t.control.sizes below size) tables' spare' (omega arith) (length-set t.control.sizes below size) long work
-        (all_stand t.control t.tables.now tables' below Same Means met size in_slot within lower top)
-
-    pub tray_built : Built below Same Means met size t.control t.tables.now (moved t.control (below + 1) (set t.control.sizes below size)) tables'
-    tray_built = built t.control t.tables.now tables' below Same Means met size in_slot within lower top
+    pub landed_call : ((k : ℕ) → k < c'.count → ∥ Stands c' tables' k ∥₁) × Built below Same Means met size t.control t.tables.now c' tables'
+    landed_call = (
+      subst (λ x. (k : ℕ) → k < x.count → ∥ Stands x tables' k ∥₁) (sym is)
+          (all_stand t.control t.tables.now tables' below Same Means met size landed within lower top),
+      subst (λ x. Built below Same Means met size t.control t.tables.now x tables') (sym is)
+          (built t.control t.tables.now tables' below Same Means met size landed within lower top),
+    )

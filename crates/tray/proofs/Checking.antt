@@ -44,11 +44,6 @@ not_below a b pass = ⊎_elim (λ l. absurd (pass l)) (λ l. l) (cases_lt a b)
 pub neither_below : (a b d e : ℕ) → ((a < b) ⊎ (d < e) → ⊥) → (b ≤ a) × (e ≤ d)
 neither_below a b d e pass = (not_below a b (λ l. pass (inl l)), not_below d e (λ l. pass (inr l)))
 
--- a tray that can hold a table has a budget
-pub has_budget : (sets budget depth : ℕ) → (1 ≤ sets → (1 ≤ budget) × (1 ≤ depth)) → (sets ≡ 0 → (budget ≡ 0) × (depth ≡ 0)) → 1 ≤ depth → 1 ≤ budget
-has_budget sets budget depth opened unopened some =
-    ⊎_elim (λ none. let e = (unopened (omega arith)).1 in absurd (omega arith)) (λ l. (opened l).0) (cases_lt sets 1)
-
 -- slot k of d slots is among them
 pub within_slots : (d k s long : ℕ) → k < d → d * s ≤ long → k * s + s ≤ long
 within_slots d k s long h room = omega (arith, mul-le-mul_right s h)

@@ -1,21 +1,17 @@
 -- Two tables side by side: their joined answers.
-use Rattle.std.proofs.Common.{◌≡◌, ℕ, suc, ◌+◌, ◌-◌, ◌*◌, ◌<◌, ◌≤◌, Bool, List, drop, Decides, Result, sym, ap, ◌∙◌, subst, inl, inr, arith}
+use Rattle.std.proofs.Common.{◌≡◌, ℕ, ◌<◌, Bool, List, Decides, sym, ap, ◌∙◌, subst, ap₂, inl, inr}
 use Rattle.std.proofs.lemmas.Bool.Decides.{Decides-and, Decides-or}
 use Rattle.words.specs.Words.{Columns, coded}
 use Rattle.words.specs.Automata.{Moves, SameReach, language, side_by_side}
 use Rattle.words.specs.Rows.{written}
+use Rattle.words.specs.declared.rows.Rows.{Rows}
 use Rattle.words.specs.Residuals.{BySets, SamePair, Count}
 use Rattle.words.specs.TableOf.{TableOf, answers}
 use Rattle.words.proofs.Pairing.{count_same, pairs_same, same_pairs, pair_language}
 use Rattle.tables.specs.Paired.{joined}
-use Rattle.tables.specs.declared.tabulation.Counts.{Counts}
-use Rattle.tables.specs.declared.exploration.Unexplored.{Unexplored}
 use Rattle.tables.specs.declared.pairs.Join.{Join}
 use Rattle.tables.specs.declared.pairs.Join.TheVariants.{Both, Either}
-use Rattle.tray.specs.declared.control.Control.{Control}
 use Rattle.tray.specs.Joined.{Joins}
-use Rattle.tray.specs.Landing.{Landed}
-use Rattle.tray.specs.View.{slot, size_of, rows_of, says}
 
 -- two tests of words, joined
 join_decides : (join : Join) (L M : List ℕ → Bool) (w : List ℕ) → Decides (joined join (L w) (M w)) (Joins join L M w)
@@ -48,32 +44,14 @@ joins_move n Both L M l m u w cu cw e j = (sym (l u w cu cw e) ∙ j.0, sym (m u
 joins_move n Either L M l m u w cu cw e (inl j) = inl (sym (l u w cu cw e) ∙ j)
 joins_move n Either L M l m u w cu cw e (inr j) = inr (sym (m u w cu cw e) ∙ j)
 
--- ---- the two upper tables of a tray
+-- the pairs of states of two tables that rows are known to hold
+written_known : (p n s size : ℕ) (cells rows : List ℕ) → p ≡ n → s ≡ size → cells ≡ rows → written p s cells ≡ written n size rows
+written_known p n s size cells rows places states is =
+    ap (λ x. written x s cells) places ∙ ap (λ x. written n x cells) states ∙ ap (written n size) is
 
-slot_above : (count s : ℕ) → 2 ≤ count → (count - 2) * s + s ≡ (count - 1) * s
-slot_above count s h =
-    let is : count - 1 ≡ suc (count - 2) = omega arith in
-    omega (arith, ap (λ k. k * s) is)
-
-pub lower_rows : (c : Control) (tables : List ℕ) (s : ℕ) → s ≡ slot c → drop ((c.count - 2) * s) tables ≡ rows_of c tables (c.count - 2)
-lower_rows c tables s is = ap (λ x. drop ((c.count - 2) * x) tables) is
-
-pub upper_rows : (c : Control) (tables : List ℕ) (s : ℕ) → s ≡ slot c → 2 ≤ c.count → drop ((c.count - 2) * s + slot c) tables ≡ rows_of c tables (c.count - 1)
-upper_rows c tables s is two = ap (λ x. drop ((c.count - 2) * x + slot c) tables) is ∙ ap (λ x. drop x tables) (slot_above c.count (slot c) two)
-
--- what landed, in terms of what the two tables say
-pub landed_said : (join : Join) (c : Control) (tables tables' : List ℕ) (s : ℕ) (r : Result Counts Unexplored) → s ≡ slot c → 2 ≤ c.count
-    → Landed c.sets c.budget ((c.count - 2) * s)
-    (SamePair c.sets (answers c.sets (size_of c (c.count - 2)) (drop ((c.count - 2) * s) tables)) (answers c.sets (size_of c (c.count - 1)) (drop ((c.count - 2) * s + slot c) tables)))
-    (Joins join (answers c.sets (size_of c (c.count - 2)) (drop ((c.count - 2) * s) tables)) (answers c.sets (size_of c (c.count - 1)) (drop ((c.count - 2) * s + slot c) tables)))
-    tables tables' r
-    → Landed c.sets c.budget ((c.count - 2) * s) (SamePair c.sets (says c tables (c.count - 2)) (says c tables (c.count - 1)))
-    (Joins join (says c tables (c.count - 2)) (says c tables (c.count - 1))) tables tables' r
-landed_said join c tables tables' s r is two landed =
-    let n : ℕ = c.sets in
-    let low : List ℕ → List ℕ → Bool = answers n (size_of c (c.count - 2)) in
-    let up : List ℕ → List ℕ → Bool = answers n (size_of c (c.count - 1)) in
-    subst (λ x. Landed n c.budget ((c.count - 2) * s) (SamePair n (low x) (up (rows_of c tables (c.count - 1)))) (Joins join (low x) (up (rows_of c tables (c.count - 1)))) tables tables' r)
-    (lower_rows c tables s is)
-    (subst (λ y. Landed n c.budget ((c.count - 2) * s) (SamePair n (low (drop ((c.count - 2) * s) tables)) (up y)) (Joins join (low (drop ((c.count - 2) * s) tables)) (up y)) tables tables' r)
-    (upper_rows c tables s is two) landed)
+pub pairs_known : (n : ℕ) (join : Join) (l u : Rows) (low : ℕ) (lower : List ℕ) (up : ℕ) (upper : List ℕ)
+    → l.places ≡ n → l.states ≡ low → l.cells.now ≡ lower → u.places ≡ n → u.states ≡ up → u.cells.now ≡ upper
+    → side_by_side (written l.places l.states l.cells.now) (written u.places u.states u.cells.now) (joined join) ≡ pairs_of n join low lower up upper
+pairs_known n join l u low lower up upper lp ls lc up' us uc =
+    ap₂ (λ a b. side_by_side a b (joined join))
+    (written_known l.places n l.states low l.cells.now lower lp ls lc) (written_known u.places n u.states up u.cells.now upper up' us uc)

@@ -1,18 +1,36 @@
 -- A table that was explored and merged in the work space, and copied to its slot, lies there.
-use Rattle.std.proofs.Common.{◌≡◌, ℕ, ◌+◌, ◌-◌, ◌*◌, ◌<◌, ◌≤◌, Bool, List, length, get_or, drop, Err, Decides, sym, ◌∙◌, subst, mul-le-mul_right, arith}
+use Rattle.std.proofs.Common.{◌≡◌, ℕ, ◌+◌, ◌*◌, ◌<◌, ◌≤◌, Bool, List, ◌++◌, get_or, drop, Ok, Err, Result, Decides, sym, refl, ap, ◌∙◌, subst}
+use Rattle.std.specs.Result.{IsErrAnd}
 use Rattle.std.proofs.lemmas.List.{get_or-drop}
+use Rattle.std.proofs.lemmas.Result.{err_from_is_err_and}
 use Rattle.words.specs.Words.{Columns}
 use Rattle.words.specs.Automata.{Moves, SameReach}
 use Rattle.words.specs.Rows.{width}
-use Rattle.words.specs.Residuals.{Count, MoreThan}
-use Rattle.words.specs.TableOf.{TableOf}
+use Rattle.words.specs.Residuals.{Equality, Count, MoreThan}
+use Rattle.words.specs.TableOf.{TableOf, answers}
 use Rattle.words.proofs.Answering.{table_answers, table_of_answers}
 use Rattle.words.proofs.Copies.{copied_table}
 use Rattle.words.proofs.Pairing.{more_same}
-use Rattle.tables.specs.Tabulated.{Elsewhere, Enough, Tabulates}
+use Rattle.tables.specs.Tabulated.{Elsewhere}
 use Rattle.tables.specs.declared.exploration.Unexplored.{Unexplored}
-use Rattle.tables.specs.declared.exploration.Unexplored.TheVariants.{NoRoom, TooMany}
-use Rattle.tray.specs.Landing.{Lands, Landed}
+use Rattle.tables.specs.declared.exploration.Unexplored.TheVariants.{TooMany}
+use Rattle.tray.specs.declared.control.Control.{Control}
+use Rattle.tray.specs.declared.refusal.Refusal.{Refusal}
+use Rattle.tray.specs.declared.refusal.Refusal.TheVariants.{TooManyStates}
+use Rattle.tray.specs.Building.{Built, Builds}
+use Rattle.tray.specs.Calls.{too_many}
+use Rattle.tray.specs.Checks.{AllPass}
+use Rattle.tray.specs.Refusals.{refusal_of}
+use Rattle.tray.proofs.Checking.{passes, exceeds}
+
+-- from `base` on lies the table of the words that `Means` speaks of
+pub record Lands (n budget base : ℕ) (Same : List ℕ → List ℕ → Type 0) (Means : List ℕ → Type 0) (tables tables' : List ℕ) (met size : ℕ) : Type 0 where
+  pub met_few : met ≤ budget
+  pub size_few : size ≤ met
+  pub met_count : Count n Same met
+  pub table : TableOf n (answers n size (drop base tables')) (drop base tables') size
+  pub means : (w : List ℕ) → Columns n w → Decides (answers n size (drop base tables') w) (Means w)
+  pub elsewhere : Elsewhere base (size * width n) tables tables'
 
 module _ (n budget base : ℕ) (Same : List ℕ → List ℕ → Type 0) (Means : List ℕ → Type 0) (L : List ℕ → Bool) (fresh tables tables' : List ℕ) (met size : ℕ) where
   pub lands : met ≤ budget → size ≤ met → Count n Same met → TableOf n L fresh size
@@ -31,30 +49,26 @@ module _ (n budget base : ℕ) (Same : List ℕ → List ℕ → Type 0) (Means 
         elsewhere = elsewhere;
       }
 
--- ... or too many states were met; there was room
-module _ {S : Type 0} (m : Moves S) (n budget base : ℕ) (Same : List ℕ → List ℕ → Type 0) (Means : List ℕ → Type 0) (records : List S) (links spare fresh : List ℕ)
-    (records' : List S) (links' spare' fresh' tables tables' : List ℕ)
-  where
-    pub not_landed : (why : Unexplored) → Tabulates m n budget 0 records links spare fresh records' links' spare' fresh' (Err why)
-        → Enough n budget (length records) (length links) (length spare) (length fresh) 0
-        → ((u w : List ℕ) → Columns n u → Columns n w → Same u w → SameReach m u w) → tables' ≡ tables
-        → Landed n budget base Same Means tables tables' (Err why)
-    not_landed TooMany found enough from stays = (more_same n (SameReach m) Same budget from found.1, stays)
-    not_landed NoRoom found enough from stays = absurd (found.0 enough)
+-- ... or too many states were met
+pub too_many_met : {S : Type 0} (m : Moves S) (n budget : ℕ) (Same : List ℕ → List ℕ → Type 0) (why : Unexplored)
+    → ((u w : List ℕ) → Columns n u → Columns n w → Same u w → SameReach m u w) → (why ≡ TooMany) × MoreThan n (SameReach m) budget
+    → (why ≡ TooMany) × MoreThan n Same budget
+too_many_met m n budget Same why from found = (found.0, more_same n (SameReach m) Same budget from found.1)
 
--- room for an exploration in the work space
-pub work_room : (n budget records links raw fresh spare slot : ℕ) → n ≤ 8 → 1 ≤ budget → budget ≤ 512 → budget ≤ records → 8 * budget ≤ links
-    → slot ≡ budget * width n → 2 * (budget * width n) ≤ spare → raw ≡ slot → fresh ≡ spare - slot
-    → Enough n budget records links raw fresh 0
-work_room n budget records links raw fresh spare slot sets some few r l is work front back =
-    (record { sets = sets; some = some; few = few; records_enough = r; links_enough = l; rows_enough = omega arith }, omega arith)
+-- the answer of a call that was refused for too many states
+pub refused : (early : List (ℕ × Type 0)) (n budget below : ℕ) (Same : List ℕ → List ℕ → Type 0) (Means : List ℕ → Type 0) (c : Control) (tables : List ℕ)
+    (r : Result (ℕ × ℕ) Refusal) (why : Unexplored) → IsErrAnd r (λ e. e ≡ refusal_of why) → AllPass early → (why ≡ TooMany) × MoreThan n Same budget
+    → Builds (early ++ too_many n Same budget) below Same Means c tables c tables r
+refused early n budget below Same Means c tables r why said pass more =
+    let p = err_from_is_err_and r said in
+    let known : p.0 ≡ TooManyStates = p.2 ∙ ap refusal_of more.0 in
+    subst (Builds (early ++ too_many n Same budget) below Same Means c tables c tables) (sym (p.1 ∙ ap Err known))
+    (exceeds early n Same budget pass more.1, refl, refl)
 
--- a table of fewer states fits the slot
-pub slot_fits : (n budget size long base : ℕ) → size ≤ budget → base + budget * width n ≤ long → base + size * width n ≤ long
-slot_fits n budget size long base few room = omega (arith, mul-le-mul_right (width n) few)
-
--- what did not land met too many states, and changed nothing
-pub too_many_met : (n budget base : ℕ) (Same : List ℕ → List ℕ → Type 0) (Means : List ℕ → Type 0) (tables tables' : List ℕ) (why : Unexplored)
-    → Landed n budget base Same Means tables tables' (Err why) → MoreThan n Same budget × (tables' ≡ tables)
-too_many_met n budget base Same Means tables tables' TooMany x = x
-too_many_met n budget base Same Means tables tables' NoRoom x = absurd x
+-- the answer of a call that passed its checks and built a table
+pub accepted : (early : List (ℕ × Type 0)) (below : ℕ) (Same : List ℕ → List ℕ → Type 0) (Means : List ℕ → Type 0) (c : Control) (tables : List ℕ) (c' : Control)
+    (tables' : List ℕ) (met size : ℕ) (answer : ℕ × ℕ) → answer ≡ (met, size) → Equality Same → AllPass early → Built below Same Means met size c tables c' tables'
+    → Builds (early ++ too_many c.sets Same c.budget) below Same Means c tables c' tables' (Ok answer)
+accepted early below Same Means c tables c' tables' met size answer is equal pass made =
+    subst (λ r. Builds (early ++ too_many c.sets Same c.budget) below Same Means c tables c' tables' (Ok r)) (sym is)
+    (passes early c.sets Same c.budget met equal pass made.met_few made.met_count, made)

@@ -10,9 +10,8 @@ use Rattle.words.proofs.Negations.{negated_table}
 use Rattle.words.proofs.TableLaws.{table_counts}
 use Rattle.tray.specs.declared.control.Control.{Control}
 use Rattle.tray.specs.Flipped.{Flipped}
-use Rattle.tray.specs.Landing.{Lands}
-use Rattle.tray.specs.View.{slot, size_of, rows_of, says}
-use Rattle.tray.proofs.Builts.{moved}
+use Rattle.tray.proofs.Landings.{Lands}
+use Rattle.tray.specs.View.{slot, size_of, rows_of, moved, says}
 use Rattle.tray.proofs.Flips.{flipped_next, flipped_mark, flipped_elsewhere}
 
 module _ (c : Control) (tables tables' : List ℕ) (k : ℕ) (fits : size_of c k ≤ c.budget)
@@ -35,16 +34,6 @@ module _ (c : Control) (tables tables' : List ℕ) (k : ℕ) (fits : size_of c k
               (Decides-not (L w) ((λ e. e), (λ e. e)));
           elsewhere = flipped_elsewhere n (k * slot c) size tables tables' flipped;
         }
-
--- as the code has it: the slot's length and the size are results of calls
-pub negated_at : (c : Control) (tables tables' : List ℕ) (k s size : ℕ) → s ≡ slot c → size ≡ size_of c k → size_of c k ≤ c.budget
-    → TableOf c.sets (says c tables k) (rows_of c tables k) (size_of c k) → Flipped c.sets (k * s) size tables tables'
-    → Lands c.sets c.budget (k * s) (SameResidual c.sets (says c tables k)) (λ w. says c tables k w ≡ true → ⊥) tables tables' size size
-negated_at c tables tables' k s size is same fits t flipped =
-    subst (λ x. Lands c.sets c.budget (k * s) (SameResidual c.sets (says c tables k)) (λ w. says c tables k w ≡ true → ⊥) tables tables' x x) (sym same)
-    (subst (λ x. Lands c.sets c.budget (k * x) (SameResidual c.sets (says c tables k)) (λ w. says c tables k w ≡ true → ⊥) tables tables' (size_of c k) (size_of c k)) (sym is)
-    (negated c tables tables' k fits t
-    (subst (λ x. Flipped c.sets (k * x) (size_of c k) tables tables') is (subst (λ x. Flipped c.sets (k * s) x tables tables') same flipped))))
 
 pub not_moves : (n : ℕ) (L : List ℕ → Bool) → BySets n L
     → (u w : List ℕ) → Columns n u → Columns n w → ((i : ℕ) → i < n → coded i u ≡ coded i w) → (L u ≡ true → ⊥) → L w ≡ true → ⊥

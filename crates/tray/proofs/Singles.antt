@@ -1,34 +1,35 @@
 -- "Exactly one member" meets three states and keeps three.
-use Rattle.std.proofs.Common.{◌≡◌, ℕ, zero, suc, ◌+◌, ◌*◌, ◌<◌, ◌≤◌, Bool, List, [], ◌∷◌, ◌++◌, map, length, get_or, drop, set, Ok, Err, Decides, Result, sym, refl, ap, ◌∙◌, subst, ap₂, ⊎_elim, arith, pow_pos}
-use Rattle.std.proofs.lemmas.List.{append-nil, get_or-set_same}
+use Rattle.std.proofs.Common.{◌≡◌, ℕ, zero, suc, ◌+◌, ◌*◌, ◌<◌, ◌≤◌, Bool, List, [], ◌∷◌, ◌++◌, map, get_or, drop, set, Decides, sym, refl, ap, ◌∙◌, subst, ap₂, ⊎_elim, arith, pow_pos}
+use Rattle.std.proofs.lemmas.List.{append-nil}
 use Rattle.std.proofs.lemmas.Bool.{cases_lt, true≢false}
 use Rattle.std.proofs.lemmas.Bool.Decides.{same_from_decides}
 use Rattle.words.specs.Words.{Columns, coded}
 use Rattle.words.specs.Automata.{Automaton, run, accepted, language}
 use Rattle.words.specs.Relations.{Singleton}
 use Rattle.words.specs.Residuals.{SameResidual, Count, MoreThan}
-use Rattle.words.specs.TableOf.{answers}
+use Rattle.words.specs.Rows.{width}
+use Rattle.words.specs.TableOf.{TableOf, answers}
+use Rattle.tables.specs.Tabulated.{Elsewhere}
 use Rattle.words.specs.Formulas.{through}
 use Rattle.words.specs.Hiding.{turned}
 use Rattle.words.proofs.Counts.{within, pigeons}
 use Rattle.words.proofs.Hiding.{turned_here, turned_below}
 use Rattle.words.proofs.Placing.{through_run, through_columns}
 use Rattle.words.proofs.TableLaws.{residual_equality, table_counts}
-use Rattle.tables.specs.declared.tabulation.Counts.{Counts}
-use Rattle.tables.specs.declared.exploration.Unexplored.{Unexplored}
-use Rattle.tables.specs.declared.exploration.Unexplored.TheVariants.{NoRoom, TooMany}
 use Rattle.books.specs.Rule as rule
 use Rattle.books.specs.Standard.{automaton, holds}
 use Rattle.books.specs.StandardRule.{standard_rule}
 use Rattle.tray.specs.Asked.{asked, SameBookState}
-use Rattle.tray.specs.Landing.{Lands, Landed, SingleLands}
+use Rattle.tray.proofs.Landings.{Lands, lands}
 use Rattle.tray.specs.declared.control.Control.{Control}
 use Rattle.tray.specs.View as view
-use Rattle.tray.specs.View.{slot}
+use Rattle.tray.specs.View.{slot, moved}
+use Rattle.tray.specs.Building.{Built}
+use Rattle.tray.specs.declared.tray.Tray.{Tray}
 use Rattle.tray.proofs.Askings.{asked_means}
-use Rattle.tray.proofs.Builts.{moved}
+use Rattle.tray.proofs.Builts.{landed_call}
 
-exactly : Automaton
+abbrev pub exactly : Automaton
 exactly = automaton 1
 
 -- a run over place columns stays among the states
@@ -99,56 +100,62 @@ module _ (n i : ℕ) (there : i < n) (L : List ℕ → Bool) (means : (w : List 
       ⊎_elim (λ l. absurd (within n (SameResidual n L) (residual_equality n L) k 2 (omega arith) counted three)) (λ l. l) (cases_lt k 3)
 
 -- the book has three states
-not_four : (n i : ℕ) → MoreThan n (SameBookState exactly (i ∷ [])) 3 → ⊥
+pub not_four : (n i : ℕ) → MoreThan n (SameBookState exactly (i ∷ [])) 3 → ⊥
 unfolding exactly
 not_four n i more =
     pigeons 3 (λ j. run exactly.step exactly.start (map (through (i ∷ [])) (more.word j)))
     (λ j h. stays exactly (holds 1) (standard_rule.decides 1 (omega arith)) exactly.start (map (through (i ∷ [])) (more.word j)) (omega arith) (through_columns (i ∷ []) (more.word j)))
     (λ j k hj hk e. more.different j k (omega arith) (omega arith) e)
 
-pub single_lands : (n i base : ℕ) (tables tables' : List ℕ) (r : Result Counts Unexplored) → i < n
-    → Landed n 3 base (SameBookState (automaton 1) (i ∷ [])) (λ w. Singleton (coded i w)) tables tables' r → SingleLands n i base tables tables' r
-unfolding exactly
-single_lands n i base tables tables' (Ok t) there landed =
-    let L : List ℕ → Bool = answers n t.kept (drop base tables') in
-    let counted = table_counts n L (drop base tables') t.kept landed.table in
-    let many : 3 ≤ t.kept = at_least_three n i there L landed.means t.kept counted in
-    let kept_is : t.kept ≡ 3 = omega (arith, landed.size_few, landed.met_few) in (
-      omega (arith, landed.size_few, landed.met_few),
-      kept_is,
-      subst (λ k. Lands n 3 base (SameResidual n (answers n k (drop base tables'))) (λ w. Singleton (coded i w)) tables tables' k k) kept_is (record {
-        met_few = omega (arith, landed.size_few, landed.met_few);
-        size_few = omega arith;
-        met_count = counted;
-        table = landed.table;
-        means = landed.means;
-        elsewhere = landed.elsewhere;
-      }),
-    )
-single_lands n i base tables tables' (Err TooMany) there landed = not_four n i landed.0
-single_lands n i base tables tables' (Err NoRoom) there landed = landed
+-- what the book's `one` accepts, read through set i
+pub one_means : (i : ℕ) (w : List ℕ) → Decides (language (asked exactly (i ∷ [])) w) (Singleton (coded i w))
+one_means i w = asked_means exactly (i ∷ []) (holds 1) (standard_rule.decides 1 (omega arith)) refl w
 
--- in a tray whose budget is enough: the new top is counted by its own residuals
-pub single_in_tray : (c : Control) (i s : ℕ) (tables tables' : List ℕ) (t : Counts) → s ≡ slot c → 3 ≤ c.budget → c.count < length c.sizes
-    → SingleLands c.sets i (c.count * s) tables tables' (Ok t)
-    → Lands c.sets c.budget (c.count * s) (SameResidual c.sets (view.says (moved c (c.count + 1) (set c.sizes c.count t.kept)) tables' c.count))
-    (λ w. Singleton (coded i w)) tables tables' t.met t.kept
-single_in_tray c i s tables tables' t is enough within landed =
-    let n : ℕ = c.sets in
-    let k : ℕ = c.count in
-    let whole = landed.2 in
-    let top_size : get_or (set c.sizes k t.kept) k 0 ≡ 3 = get_or-set_same c.sizes k t.kept 0 within ∙ landed.1 in
-    subst (λ m. Lands n c.budget (k * s) (SameResidual n (view.says (moved c (k + 1) (set c.sizes k t.kept)) tables' k)) (λ w. Singleton (coded i w)) tables tables' m t.kept) (sym landed.0)
-    (subst (λ m. Lands n c.budget (k * s) (SameResidual n (view.says (moved c (k + 1) (set c.sizes k t.kept)) tables' k)) (λ w. Singleton (coded i w)) tables tables' 3 m) (sym landed.1)
-    (subst (λ x. Lands n c.budget (k * s) (SameResidual n (answers n x (drop (k * slot c) tables'))) (λ w. Singleton (coded i w)) tables tables' 3 3) (sym top_size)
-    (subst (λ y. Lands n c.budget (k * s) (SameResidual n (answers n 3 (drop (k * y) tables'))) (λ w. Singleton (coded i w)) tables tables' 3 3) is (record {
-      met_few = enough;
-      size_few = omega arith;
-      met_count = whole.met_count;
-      table = whole.table;
-      means = whole.means;
-      elsewhere = whole.elsewhere;
-    }))))
+-- an exploration with room for three states meets three, and its table has three
+pub single_counts : (n i : ℕ) (L : List ℕ → Bool) (rows : List ℕ) (met size : ℕ) → i < n → met ≤ 3 → size ≤ met → TableOf n L rows size
+    → ((w : List ℕ) → Columns n w → Decides (L w) (Singleton (coded i w))) → (met ≡ 3) × (size ≡ 3)
+single_counts n i L rows met size there few fewer table means =
+    let many : 3 ≤ size = at_least_three n i there L means size (table_counts n L rows size table) in
+    (omega (arith, many, few, fewer), omega (arith, many, few, fewer))
 
 pub single_moves : (n i : ℕ) → i < n → (u w : List ℕ) → Columns n u → Columns n w → ((j : ℕ) → j < n → coded j u ≡ coded j w) → Singleton (coded i u) → Singleton (coded i w)
 single_moves n i there u w cu cw same h = subst Singleton (same i there) h
+
+-- the call: three states are met and kept, and the new top is counted by its own residuals
+module _ (t : Tray) (i : ℕ) (there : i < t.control.sets) (high : t.control.count < t.control.depth) (enough : 3 ≤ t.control.budget)
+    (L : List ℕ → Bool) (fresh tables' : List ℕ) (met size : ℕ) (few : met ≤ 3) (fewer : size ≤ met) (made : TableOf t.control.sets L fresh size)
+    (means : (w : List ℕ) → Decides (L w) (Singleton (coded i w)))
+    (copied : (x : ℕ) → x < size * width t.control.sets → get_or tables' (t.control.count * slot t.control + x) 0 ≡ get_or fresh x 0)
+    (elsewhere : Elsewhere (t.control.count * slot t.control) (size * width t.control.sets) t.tables.now tables')
+  where
+    pub three_states : (met ≡ 3) × (size ≡ 3)
+    three_states = single_counts t.control.sets i L fresh met size there few fewer made (λ w _. means w)
+
+    landed : Lands t.control.sets t.control.budget (t.control.count * slot t.control) (SameResidual t.control.sets (answers t.control.sets size (drop (t.control.count * slot t.control) tables')))
+        (λ w. Singleton (coded i w)) t.tables.now tables' met size
+    landed =
+        let same : size ≡ met = omega (arith, three_states.0, three_states.1) in
+        let first = lands t.control.sets t.control.budget (t.control.count * slot t.control) (SameResidual t.control.sets L) (λ w. Singleton (coded i w)) L fresh t.tables.now tables' met size
+        (omega (arith, few, enough)) fewer (subst (Count t.control.sets (SameResidual t.control.sets L)) same (table_counts t.control.sets L fresh size made)) made copied elsewhere (λ w _. means w) in
+        record {
+          met_few = first.met_few;
+          size_few = fewer;
+          met_count = subst (Count t.control.sets (SameResidual t.control.sets (answers t.control.sets size (drop (t.control.count * slot t.control) tables')))) same
+              (table_counts t.control.sets (answers t.control.sets size (drop (t.control.count * slot t.control) tables')) (drop (t.control.count * slot t.control) tables') size first.table);
+          table = first.table;
+          means = first.means;
+          elsewhere = elsewhere;
+        }
+
+    pub single_call : (c' : Control) → c' ≡ moved t.control (t.control.count + 1) (set t.control.sizes t.control.count size)
+        → ((k : ℕ) → k < c'.count → ∥ view.Stands c' tables' k ∥₁)
+        × Built t.control.count (SameResidual t.control.sets (view.says c' tables' t.control.count)) (λ w. Singleton (coded i w)) met size t.control t.tables.now c' tables'
+    single_call c' is =
+        let m : Control = moved t.control (t.control.count + 1) (set t.control.sizes t.control.count size) in
+        let call = landed_call t t.control.count (SameResidual t.control.sets (answers t.control.sets size (drop (t.control.count * slot t.control) tables'))) (λ w. Singleton (coded i w)) high (omega arith)
+        (single_moves t.control.sets i there) tables' met size landed m refl in (
+          subst (λ x. (k : ℕ) → k < x.count → ∥ view.Stands x tables' k ∥₁) (sym is) call.0,
+          subst (λ x. Built t.control.count (SameResidual t.control.sets (view.says x tables' t.control.count)) (λ w. Singleton (coded i w)) met size t.control t.tables.now x tables') (sym is)
+              (subst (λ s. Built t.control.count (SameResidual t.control.sets (answers t.control.sets s (drop (t.control.count * slot t.control) tables'))) (λ w. Singleton (coded i w)) met size t.control t.tables.now m tables')
+              (sym call.1.size) call.1),
+        )

@@ -1,11 +1,13 @@
 pub mod Refusals
+pub mod Messages
 pub mod Checks
 pub mod View
+pub mod Aside
+pub mod Memory
 pub mod Opening
 pub mod Asked
 pub mod Joined
 pub mod Flipped
 pub mod Building
-pub mod Landing
 pub mod Calls
 pub mod FormulaLaws

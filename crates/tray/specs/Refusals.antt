@@ -1,5 +1,7 @@
 -- The number of each refusal.
 use Rattle.std.specs.Prelude.{ℕ}
+use Rattle.tables.specs.declared.exploration.Unexplored.{Unexplored}
+use Rattle.tables.specs.declared.exploration.Unexplored.TheVariants.{NoRoom, TooMany}
 use Rattle.tray.specs.declared.refusal.Refusal.{Refusal}
 use Rattle.tray.specs.declared.refusal.Refusal.TheVariants.{WrongSets, WrongBudget, WrongDepth, NoMemory, NoPredicate, WrongPlaces, NoSet, NoBuffer, Full, TooFewTables, TooManyStates}
 
@@ -15,3 +17,8 @@ number_of NoBuffer = 8
 number_of Full = 21
 number_of TooFewTables = 22
 number_of TooManyStates = 23
+
+-- what an exploration that ended without a table is refused for
+abbrev pub refusal_of : Unexplored → Refusal
+refusal_of NoRoom = NoMemory
+refusal_of TooMany = TooManyStates

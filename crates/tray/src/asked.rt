@@ -13,8 +13,8 @@ fn read_through(listed: &[u8], column: u8) -> u8
     ensures { result ≡ through listed.now column }
 {
     let mut read = 0;
-    for j in (0..listed.len()).rev() {
-        read = 2 * read + u8::from(in_set(column, listed[j]));
+    for set in listed.iter().rev() {
+        read = 2 * read + u8::from(in_set(column, *set));
     }
     read
 }

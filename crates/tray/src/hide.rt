@@ -1,34 +1,30 @@
 //! The call that hides a set.
-ghost use Rattle.std.specs.Prelude.{◌≡◌, ◌≤◌, length, MatchResult};
+ghost use Rattle.std.specs.Prelude.{◌≡◌, ◌≤◌, length};
 ghost use Rattle.tray.specs.Calls.{hide_checks, HidesTop};
-ghost use Rattle.tray.specs.Checks.{FirstFailed, AllPass};
-ghost use Rattle.tray.specs.Refusals.{number_of};
+ghost use Rattle.tray.specs.Checks.{Checked};
+ghost use Rattle.tray.specs.Memory.{SameMemory};
 
-use crate::control::Control;
-use crate::hidden::hide_table;
 use crate::refusal::Refusal;
-use crate::slots::slot_length;
 use crate::tray::Tray;
 use hiding::StateSet;
 
-// The checks of hide that come before exploring.
-fn may_hide(control: &Control, set: u8, records: usize, links: usize) -> Result<(), Refusal>
-    requires { control.now.budget ≤ 512 }
-    ensures { MatchResult result (λ _. AllPass (hide_checks control.now.sets control.now.budget control.now.count records links set)) (λ e. FirstFailed (hide_checks control.now.sets control.now.budget control.now.count records links set) (number_of e)) }
-{
-    if records < control.budget || links < 8 * control.budget {
-        return Err(Refusal::NoMemory);
-    }
-    if set >= control.sets {
-        return Err(Refusal::NoSet);
-    }
-    if control.count < 1 {
-        return Err(Refusal::TooFewTables);
-    }
-    Ok(())
-}
-
 impl<'m, 's> Tray<'m, 's> {
+    // The checks of hide that come before exploring.
+    fn may_hide(&self, set: u8, records: usize, links: usize) -> Result<(), Refusal>
+        ensures { Checked (hide_checks self.now.control.sets self.now.control.budget self.now.control.count records links set) result }
+    {
+        if self.lacks(records, links) {
+            return Err(Refusal::NoMemory);
+        }
+        if set >= self.control.sets {
+            return Err(Refusal::NoSet);
+        }
+        if self.control.count < 1 {
+            return Err(Refusal::TooFewTables);
+        }
+        Ok(())
+    }
+
     /// The top becomes "some finite set in place of this one makes it true". Answers how many sets of states were met,
     /// and how many states were kept. Records and links are work memory.
     pub fn hide(
@@ -38,36 +34,18 @@ impl<'m, 's> Tray<'m, 's> {
         links: &mut [u16],
     ) -> Result<(usize, usize), Refusal>
         ensures hides { HidesTop (length records.old) (length links.old) set self.old.control self.old.tables.now self.new.control self.new.tables.now result }
-        ensures owners { (self.new.tables.ghost_name ≡ self.old.tables.ghost_name) × (self.new.spare.ghost_name ≡ self.old.spare.ghost_name) }
+        ensures owners { SameMemory self.old self.new }
     {
+        self.may_hide(set, records.len(), links.len())?;
         let Tray {
             control,
             tables,
             spare,
         } = self;
-        if let Err(why) = may_hide(control, set, records.len(), links.len()) {
-            return Err(why);
-        }
         let top = control.count - 1;
-        let base = top * slot_length(control.sets, control.budget);
-        let hidden = hide_table(
-            set,
-            control.sets,
-            control.budget,
-            control.sizes[top],
-            records,
-            links,
-            spare,
-            tables,
-            base,
-        );
-        match hidden {
-            Ok(counts) => {
-                control.sizes[top] = counts.kept as u16;
-                control.count = top + 1;
-                Ok((counts.met, counts.kept))
-            }
-            Err(_) => Err(Refusal::TooManyStates),
-        }
+        let held: &mut [u16] = tables;
+        let work: &mut [u16] = spare;
+        let counts = control.explore_hidden(held, top, set, records, links, work)?;
+        Ok(control.land(held, work, top, counts))
     }
 }

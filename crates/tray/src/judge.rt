@@ -3,10 +3,8 @@ ghost use Rattle.std.specs.Prelude.{◌≡◌, length};
 ghost use Rattle.tray.specs.Calls.{JudgesTop};
 
 use crate::refusal::Refusal;
-use crate::slots::{rows_from, slot_length};
 use crate::tray::Tray;
 use judging::{Judgement, judge_rows};
-use words::Rows;
 
 impl<'m, 's> Tray<'m, 's> {
     /// Whether no sets meet the claim on top, some or all; how many states its table has; and the earliest of the
@@ -23,15 +21,7 @@ impl<'m, 's> Tray<'m, 's> {
             return Err(Refusal::TooFewTables);
         }
         let top = control.count - 1;
-        let cells = rows_from(self.tables, top * slot_length(control.sets, control.budget));
-        let rows = Rows {
-            places: control.sets,
-            states: control.sizes[top],
-            cells,
-        };
-        match judge_rows(&rows, witness, counterexample) {
-            Some(judgement) => Ok(judgement),
-            None => Err(Refusal::NoBuffer),
-        }
+        let table = control.rows(self.tables, top);
+        judge_rows(&table, witness, counterexample).ok_or(Refusal::NoBuffer)
     }
 }

@@ -3,21 +3,14 @@
 
 mod asked;
 mod control;
-mod hidden;
 mod hide;
 mod join;
-mod joining;
 mod judge;
-mod landing;
 mod laws;
-mod negating;
 mod opening;
 mod place;
-mod placing;
 mod refusal;
 mod single;
-mod singling;
-mod slots;
 mod top;
 mod tray;
 

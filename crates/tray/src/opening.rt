@@ -1,11 +1,11 @@
-//! Making a tray, opening it, and taking its top table off.
-ghost use Rattle.std.specs.Prelude.{◌≡◌, ℕ, ◌+◌, ◌*◌, ◌≤◌, length, MatchResult};
+//! Making a tray, and opening it.
+ghost use Rattle.std.specs.Prelude.{◌≡◌, ℕ, ◌+◌, ◌*◌, ◌≤◌, length};
 ghost use Rattle.words.specs.Rows.{width};
-ghost use Rattle.tray.specs.Checks.{FirstFailed, AllPass};
+ghost use Rattle.tray.specs.Checks.{Checked};
 ghost use Rattle.tray.specs.Opening.{Opens, open_checks};
-ghost use Rattle.tray.specs.Refusals.{number_of};
+ghost use Rattle.tray.specs.Memory.{SameMemory};
 
-use crate::control::Control;
+use crate::control::{Control, room_for};
 use crate::refusal::Refusal;
 use crate::tray::Tray;
 
@@ -17,7 +17,7 @@ fn fitting(
     tables: usize,
     spare: usize,
 ) -> Result<(), Refusal>
-    ensures { MatchResult result (λ _. AllPass (open_checks sets budget depth tables spare)) (λ e. FirstFailed (open_checks sets budget depth tables spare) (number_of e)) }
+    ensures { Checked (open_checks sets budget depth tables spare) result }
 {
     if sets < 1 || sets > 8 {
         return Err(Refusal::WrongSets);
@@ -28,7 +28,7 @@ fn fitting(
     if depth < 1 || depth > 16 {
         return Err(Refusal::WrongDepth);
     }
-    let slot = budget * ((1usize << sets) + 1);
+    let slot = room_for(sets, budget);
     if tables < depth * slot || spare < 2 * slot {
         return Err(Refusal::NoMemory);
     }
@@ -43,8 +43,7 @@ fn table_length(sets: usize, budget: usize, depth: usize, most: usize) -> usize
     if sets > 8 || budget > 512 || depth > 16 {
         return 0;
     }
-    let length = depth * (budget * ((1usize << sets) + 1));
-    if length > most { most } else { length }
+    most.min(depth * room_for(sets, budget))
 }
 
 impl<'m, 's> Tray<'m, 's> {
@@ -85,16 +84,14 @@ impl<'m, 's> Tray<'m, 's> {
     pub fn open(&mut self, sets: usize, budget: usize, depth: usize) -> Result<(), Refusal>
         ensures opens { Opens sets budget depth (length self.old.tables.now) (length self.old.spare.now) self.old.control self.new.control result }
         ensures memory { (self.new.tables.now ≡ self.old.tables.now) × (self.new.spare.now ≡ self.old.spare.now) }
-        ensures owners { (self.new.tables.ghost_name ≡ self.old.tables.ghost_name) × (self.new.spare.ghost_name ≡ self.old.spare.ghost_name) }
+        ensures owners { SameMemory self.old self.new }
     {
         let Tray {
             control,
             tables,
             spare,
         } = self;
-        if let Err(why) = fitting(sets, budget, depth, tables.len(), spare.len()) {
-            return Err(why);
-        }
+        fitting(sets, budget, depth, tables.len(), spare.len())?;
         control.sets = sets as u8;
         control.budget = budget;
         control.depth = depth;

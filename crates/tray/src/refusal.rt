@@ -1,32 +1,36 @@
 //! Why a call is refused.
 ghost use Rattle.std.specs.Prelude.{◌≡◌};
-ghost use Rattle.tray.specs.Refusals.{number_of};
+ghost use Rattle.tray.specs.Refusals.{number_of, refusal_of};
 
-/// The first check of a call that failed. Each has the number by which users know it.
+use std::error::Error;
+use std::fmt;
+use tables::Unexplored;
+
+/// The first check of a call that failed, with the number by which users know it.
 #[derive(Clone, Copy, PartialEq, Eq, Debug)]
 pub enum Refusal {
     /// The number of sets is not from 1 to 8.
-    WrongSets,
+    WrongSets = 1,
     /// The budget is not from 1 to 512.
-    WrongBudget,
+    WrongBudget = 2,
     /// The depth is not from 1 to 16.
-    WrongDepth,
+    WrongDepth = 3,
     /// Memory that the call was given is too short.
-    NoMemory,
+    NoMemory = 4,
     /// The book lacks the predicate.
-    NoPredicate,
+    NoPredicate = 5,
     /// The number of sets differs from the predicate's places.
-    WrongPlaces,
+    WrongPlaces = 6,
     /// A set is not below the number of sets.
-    NoSet,
+    NoSet = 7,
     /// An output buffer is too short.
-    NoBuffer,
+    NoBuffer = 8,
     /// The tray holds as many tables as its depth.
-    Full,
+    Full = 21,
     /// The tray holds too few tables.
-    TooFewTables,
+    TooFewTables = 22,
     /// More states are met than the budget.
-    TooManyStates,
+    TooManyStates = 23,
 }
 
 impl Refusal {
@@ -34,18 +38,43 @@ impl Refusal {
     pub fn number(self) -> u8
         ensures { result ≡ number_of self }
     {
-        match self {
-            Refusal::WrongSets => 1,
-            Refusal::WrongBudget => 2,
-            Refusal::WrongDepth => 3,
-            Refusal::NoMemory => 4,
-            Refusal::NoPredicate => 5,
-            Refusal::WrongPlaces => 6,
-            Refusal::NoSet => 7,
-            Refusal::NoBuffer => 8,
-            Refusal::Full => 21,
-            Refusal::TooFewTables => 22,
-            Refusal::TooManyStates => 23,
+        self as u8
+    }
+}
+
+impl fmt::Display for Refusal {
+    ghost use Rattle.std.specs.Prelude.{Some};
+    ghost use Rattle.tray.specs.Messages.{refusal_text};
+
+    ghost output = { λ why. Some (refusal_text why) };
+
+    fn fmt<W: fmt::Write>(&self, f: &mut fmt::Formatter<W>) -> fmt::Result {
+        f.write_str(match self {
+            Refusal::WrongSets => "the number of sets is not from 1 to 8",
+            Refusal::WrongBudget => "the budget is not from 1 to 512",
+            Refusal::WrongDepth => "the depth is not from 1 to 16",
+            Refusal::NoMemory => "memory that the call was given is too short",
+            Refusal::NoPredicate => "the book lacks the predicate",
+            Refusal::WrongPlaces => "the number of sets differs from the predicate's places",
+            Refusal::NoSet => "a set is not below the number of sets",
+            Refusal::NoBuffer => "an output buffer is too short",
+            Refusal::Full => "the tray holds as many tables as its depth",
+            Refusal::TooFewTables => "the tray holds too few tables",
+            Refusal::TooManyStates => "more states are met than the budget",
+        })
+    }
+}
+
+impl Error for Refusal {}
+
+/// What an exploration met is the call's refusal.
+impl From<Unexplored> for Refusal {
+    ghost from_gives = { λ why r. r ≡ refusal_of why };
+
+    fn from(why: Unexplored) -> Refusal {
+        match why {
+            Unexplored::NoRoom => Refusal::NoMemory,
+            Unexplored::TooMany => Refusal::TooManyStates,
         }
     }
 }

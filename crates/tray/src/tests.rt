@@ -4,20 +4,40 @@ use books::Standard;
 use hiding::StateSet;
 use judging::{Judgement, Verdict};
 
-const SUB: u8 = 0;
-
-const ONE: u8 = 1;
-
-const SUC: u8 = 2;
-
-const SUM: u8 = 4;
-
 // What a judge answers, and its two buffers, which were filled with 9 before.
 fn judged(tray: &Tray) -> (Result<Judgement, Refusal>, [u8; 9], [u8; 9]) {
     let mut witness = [9; 9];
     let mut counterexample = [9; 9];
     let judgement = tray.judge(&mut witness, &mut counterexample);
     (judgement, witness, counterexample)
+}
+
+// The judgement that some sets meet the claim, with so many states and words of these lengths.
+fn some(states: usize, witness: usize, counterexample: usize) -> Judgement {
+    Judgement {
+        verdict: Verdict::SomeSets,
+        states,
+        witness: Some(witness),
+        counterexample: Some(counterexample),
+    }
+}
+
+fn all(states: usize, witness: usize) -> Judgement {
+    Judgement {
+        verdict: Verdict::AllSets,
+        states,
+        witness: Some(witness),
+        counterexample: None,
+    }
+}
+
+fn none(states: usize, counterexample: usize) -> Judgement {
+    Judgement {
+        verdict: Verdict::NoSets,
+        states,
+        witness: None,
+        counterexample: Some(counterexample),
+    }
 }
 
 // The calls, with enough records and links. They promise nothing here, so that what a test does stays small for the
@@ -60,26 +80,14 @@ fn sub_and_its_negation(rt: HostRuntime) {
     let mut spare = [0; 90];
     let mut tray = Tray::over(&mut tables, &mut spare);
     assert_eq!(rt; opened(&mut tray, 2, 9, 4), Ok(()));
-    assert_eq!(rt; placed(&mut tray, SUB, &[0, 1]), Ok((2, 2)));
+    assert_eq!(rt; placed(&mut tray, Standard::SUB, &[0, 1]), Ok((2, 2)));
     let (answer, witness, counterexample) = judged(&tray);
-    let some = Judgement {
-        verdict: Verdict::SomeSets,
-        states: 2,
-        witness: Some(0),
-        counterexample: Some(1),
-    };
-    assert_eq!(rt; answer, Ok(some));
+    assert_eq!(rt; answer, Ok(some(2, 0, 1)));
     assert!(rt; witness == [9; 9]);
     assert!(rt; counterexample == [1, 9, 9, 9, 9, 9, 9, 9, 9]);
     assert_eq!(rt; negated(&mut tray), Ok((2, 2)));
     let (answer, witness, counterexample) = judged(&tray);
-    let turned = Judgement {
-        verdict: Verdict::SomeSets,
-        states: 2,
-        witness: Some(1),
-        counterexample: Some(0),
-    };
-    assert_eq!(rt; answer, Ok(turned));
+    assert_eq!(rt; answer, Ok(some(2, 1, 0)));
     assert!(rt; witness == [1, 9, 9, 9, 9, 9, 9, 9, 9]);
     assert!(rt; counterexample == [9; 9]);
 }
@@ -91,28 +99,16 @@ fn all_and_none(rt: HostRuntime) {
     let mut spare = [0; 90];
     let mut tray = Tray::over(&mut tables, &mut spare);
     assert_eq!(rt; opened(&mut tray, 2, 9, 4), Ok(()));
-    assert_eq!(rt; placed(&mut tray, SUB, &[0, 1]), Ok((2, 2)));
-    assert_eq!(rt; placed(&mut tray, SUB, &[0, 1]), Ok((2, 2)));
+    assert_eq!(rt; placed(&mut tray, Standard::SUB, &[0, 1]), Ok((2, 2)));
+    assert_eq!(rt; placed(&mut tray, Standard::SUB, &[0, 1]), Ok((2, 2)));
     assert_eq!(rt; negated(&mut tray), Ok((2, 2)));
     assert_eq!(rt; either(&mut tray), Ok((2, 1)));
     let (answer, _, counterexample) = judged(&tray);
-    let all = Judgement {
-        verdict: Verdict::AllSets,
-        states: 1,
-        witness: Some(0),
-        counterexample: None,
-    };
-    assert_eq!(rt; answer, Ok(all));
+    assert_eq!(rt; answer, Ok(all(1, 0)));
     assert!(rt; counterexample == [9; 9]);
     assert_eq!(rt; negated(&mut tray), Ok((1, 1)));
     let (answer, witness, _) = judged(&tray);
-    let none = Judgement {
-        verdict: Verdict::NoSets,
-        states: 1,
-        witness: None,
-        counterexample: Some(0),
-    };
-    assert_eq!(rt; answer, Ok(none));
+    assert_eq!(rt; answer, Ok(none(1, 0)));
     assert!(rt; witness == [9; 9]);
 }
 
@@ -124,19 +120,13 @@ fn both_of_two_singletons(rt: HostRuntime) {
     let mut spare = [0; 90];
     let mut tray = Tray::over(&mut tables, &mut spare);
     assert_eq!(rt; opened(&mut tray, 2, 9, 4), Ok(()));
-    assert_eq!(rt; placed(&mut tray, ONE, &[0]), Ok((3, 3)));
+    assert_eq!(rt; placed(&mut tray, Standard::ONE, &[0]), Ok((3, 3)));
     assert_eq!(rt; singled(&mut tray, 1), Ok((3, 3)));
-    assert_eq!(rt; placed(&mut tray, SUC, &[1, 0]), Ok((4, 4)));
+    assert_eq!(rt; placed(&mut tray, Standard::SUC, &[1, 0]), Ok((4, 4)));
     assert_eq!(rt; dropped(&mut tray), Ok(()));
     assert_eq!(rt; both(&mut tray), Ok((9, 5)));
     let (answer, witness, counterexample) = judged(&tray);
-    let some = Judgement {
-        verdict: Verdict::SomeSets,
-        states: 5,
-        witness: Some(1),
-        counterexample: Some(0),
-    };
-    assert_eq!(rt; answer, Ok(some));
+    assert_eq!(rt; answer, Ok(some(5, 1, 0)));
     assert!(rt; witness == [3, 9, 9, 9, 9, 9, 9, 9, 9]);
     assert!(rt; counterexample == [9; 9]);
 }
@@ -148,15 +138,9 @@ fn successor(rt: HostRuntime) {
     let mut spare = [0; 90];
     let mut tray = Tray::over(&mut tables, &mut spare);
     assert_eq!(rt; opened(&mut tray, 2, 9, 4), Ok(()));
-    assert_eq!(rt; placed(&mut tray, SUC, &[0, 1]), Ok((4, 4)));
+    assert_eq!(rt; placed(&mut tray, Standard::SUC, &[0, 1]), Ok((4, 4)));
     let (answer, witness, counterexample) = judged(&tray);
-    let some = Judgement {
-        verdict: Verdict::SomeSets,
-        states: 4,
-        witness: Some(2),
-        counterexample: Some(0),
-    };
-    assert_eq!(rt; answer, Ok(some));
+    assert_eq!(rt; answer, Ok(some(4, 2, 0)));
     assert!(rt; witness == [1, 2, 9, 9, 9, 9, 9, 9, 9]);
     assert!(rt; counterexample == [9; 9]);
 }
@@ -168,26 +152,14 @@ fn sum_with_the_third_hidden(rt: HostRuntime) {
     let mut spare = [0; 162];
     let mut tray = Tray::over(&mut tables, &mut spare);
     assert_eq!(rt; opened(&mut tray, 3, 9, 4), Ok(()));
-    assert_eq!(rt; placed(&mut tray, SUM, &[0, 1, 2]), Ok((3, 3)));
+    assert_eq!(rt; placed(&mut tray, Standard::SUM, &[0, 1, 2]), Ok((3, 3)));
     let (answer, witness, counterexample) = judged(&tray);
-    let some = Judgement {
-        verdict: Verdict::SomeSets,
-        states: 3,
-        witness: Some(0),
-        counterexample: Some(1),
-    };
-    assert_eq!(rt; answer, Ok(some));
+    assert_eq!(rt; answer, Ok(some(3, 0, 1)));
     assert!(rt; witness == [9; 9]);
     assert!(rt; counterexample == [1, 9, 9, 9, 9, 9, 9, 9, 9]);
     assert_eq!(rt; hidden(&mut tray, 2), Ok((3, 1)));
     let (answer, _, _) = judged(&tray);
-    let all = Judgement {
-        verdict: Verdict::AllSets,
-        states: 1,
-        witness: Some(0),
-        counterexample: None,
-    };
-    assert_eq!(rt; answer, Ok(all));
+    assert_eq!(rt; answer, Ok(all(1, 0)));
 }
 
 // Exactly one member takes three states: a budget of 2 is too small, and one of 3 is enough. A refused call leaves the
@@ -198,19 +170,16 @@ fn budget(rt: HostRuntime) {
     let mut spare = [0; 90];
     let mut tray = Tray::over(&mut tables, &mut spare);
     assert_eq!(rt; opened(&mut tray, 1, 2, 1), Ok(()));
-    assert_eq!(rt; placed(&mut tray, ONE, &[0]), Err(Refusal::TooManyStates));
+    assert_eq!(rt;
+        placed(&mut tray, Standard::ONE, &[0]),
+        Err(Refusal::TooManyStates)
+    );
     assert_eq!(rt; singled(&mut tray, 0), Err(Refusal::TooManyStates));
     assert_eq!(rt; dropped(&mut tray), Err(Refusal::TooFewTables));
     assert_eq!(rt; opened(&mut tray, 1, 3, 1), Ok(()));
-    assert_eq!(rt; placed(&mut tray, ONE, &[0]), Ok((3, 3)));
+    assert_eq!(rt; placed(&mut tray, Standard::ONE, &[0]), Ok((3, 3)));
     let (answer, witness, counterexample) = judged(&tray);
-    let some = Judgement {
-        verdict: Verdict::SomeSets,
-        states: 3,
-        witness: Some(1),
-        counterexample: Some(0),
-    };
-    assert_eq!(rt; answer, Ok(some));
+    assert_eq!(rt; answer, Ok(some(3, 1, 0)));
     assert!(rt; witness == [1, 9, 9, 9, 9, 9, 9, 9, 9]);
     assert!(rt; counterexample == [9; 9]);
 }
@@ -238,8 +207,14 @@ fn never_opened(rt: HostRuntime) {
     let mut spare = [0; 9];
     let mut tray = Tray::over(&mut tables, &mut spare);
     assert_eq!(rt; placed(&mut tray, 9, &[0]), Err(Refusal::NoPredicate));
-    assert_eq!(rt; placed(&mut tray, SUB, &[0]), Err(Refusal::WrongPlaces));
-    assert_eq!(rt; placed(&mut tray, SUB, &[0, 0]), Err(Refusal::NoSet));
+    assert_eq!(rt;
+        placed(&mut tray, Standard::SUB, &[0]),
+        Err(Refusal::WrongPlaces)
+    );
+    assert_eq!(rt;
+        placed(&mut tray, Standard::SUB, &[0, 0]),
+        Err(Refusal::NoSet)
+    );
     assert_eq!(rt; singled(&mut tray, 0), Err(Refusal::NoSet));
     assert_eq!(rt; both(&mut tray), Err(Refusal::TooFewTables));
     assert_eq!(rt; hidden(&mut tray, 0), Err(Refusal::NoSet));
@@ -255,9 +230,15 @@ fn refusals_in_order(rt: HostRuntime) {
     assert_eq!(rt; opened(&mut tray, 2, 9, 1), Ok(()));
     assert_eq!(rt; hidden(&mut tray, 2), Err(Refusal::NoSet));
     assert_eq!(rt; hidden(&mut tray, 1), Err(Refusal::TooFewTables));
-    assert_eq!(rt; placed(&mut tray, SUB, &[1, 1]), Ok((1, 1)));
-    assert_eq!(rt; placed(&mut tray, SUB, &[0, 2]), Err(Refusal::NoSet));
-    assert_eq!(rt; placed(&mut tray, SUB, &[0, 1]), Err(Refusal::Full));
+    assert_eq!(rt; placed(&mut tray, Standard::SUB, &[1, 1]), Ok((1, 1)));
+    assert_eq!(rt;
+        placed(&mut tray, Standard::SUB, &[0, 2]),
+        Err(Refusal::NoSet)
+    );
+    assert_eq!(rt;
+        placed(&mut tray, Standard::SUB, &[0, 1]),
+        Err(Refusal::Full)
+    );
     assert_eq!(rt; singled(&mut tray, 2), Err(Refusal::NoSet));
     assert_eq!(rt; singled(&mut tray, 1), Err(Refusal::Full));
     assert_eq!(rt; both(&mut tray), Err(Refusal::TooFewTables));

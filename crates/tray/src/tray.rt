@@ -1,5 +1,5 @@
 //! The tray itself, and what it keeps true.
-ghost use Rattle.std.specs.Prelude.{◌≡◌, ℕ, ◌*◌, ◌<◌, ◌≤◌, length};
+ghost use Rattle.std.specs.Prelude.{◌≡◌, ℕ, ◌*◌, ◌<◌, ◌≤◌, ◌⊎◌, length, Decides};
 ghost use Rattle.tray.specs.View.{slot, Stands};
 
 use crate::control::Control;
@@ -22,4 +22,13 @@ pub struct Tray<'m, 's> {
     ghost slots: { control.depth * slot control ≤ length tables.now },
     ghost work: { 2 * slot control ≤ length spare.now },
     ghost live: { ((k : ℕ) → k < control.count → ∥ Stands control tables.now k ∥₁) },
+}
+
+impl Tray<'_, '_> {
+    // Whether so many records or links are too few to explore with.
+    pub(crate) fn lacks(&self, records: usize, links: usize) -> bool
+        ensures { Decides result ((records < self.now.control.budget) ⊎ (links < 8 * self.now.control.budget)) }
+    {
+        records < self.control.budget || links < 8 * self.control.budget
+    }
 }

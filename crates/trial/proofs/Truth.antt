@@ -1,23 +1,25 @@
 -- A word whose output was corrected: what it codes, and when the book's sum holds of it.
-use Rattle.std.proofs.Common.{◌≡◌, ℕ, ◌+◌, ◌*◌, ◌%◌, ◌^◌, ◌<◌, ◌≤◌, Bool, List, [], ◌∷◌, ◌++◌, length, get_or, Err, Decides, sym, ap, ◌∙◌, subst, lt_of_lt_of_le, mod-lt, mod-eq_of_lt, pow-suc, add-one, arith, pow_pos, pow_mono, below_more}
-use Rattle.std.proofs.lemmas.List.{length_push, get_or_push, get_or_append_left}
+use Rattle.std.proofs.Common.{◌≡◌, ℕ, ◌+◌, ◌%◌, ◌^◌, ◌<◌, ◌≤◌, Bool, false, List, length, get_or, Ok, Err, Result, Decides, ap, ◌∙◌, subst, lt_of_lt_of_le, mod-lt, mod-eq_of_lt, pow-suc, add-one, arith, pow_pos, pow_mono}
 use Rattle.words.specs.Sets.{bit}
 use Rattle.words.specs.Words.{Columns, coded}
 use Rattle.words.specs.Relations.{Sum, Ternary}
 use Rattle.words.proofs.Bits.{bit_small}
 use Rattle.words.proofs.Coding.{coded_bit, coded_below, coded_by_bits, columns_at, columns_by}
 use Rattle.words.proofs.Reading.{sum_plain}
+use Rattle.std.specs.Result.{result_unwrap_or}
 use Rattle.books.specs.Question.{Answers}
 use Rattle.books.specs.declared.question.NoAnswer.{NoAnswer}
 use Rattle.books.specs.declared.question.NoAnswer.TheVariants.{NoPredicate, NoColumn}
 use Rattle.trial.specs.Examined.{Corrected, Found}
 
 -- of columns in range, `sum` is never without an answer
-pub answered : (w : List ℕ) (e : NoAnswer) → Columns 3 w → Answers 6 3 (Ternary Sum) 4 w (Err e) → ⊥
-answered w NoPredicate fit no_answer = omega arith
-answered w (NoColumn i) fit no_answer =
-    let out = no_answer.2 in
-    omega (arith, columns_at 3 w i fit no_answer.1)
+pub answered : (w : List ℕ) (r : Result Bool NoAnswer) → Answers 6 3 (Ternary Sum) 4 w r → Columns 3 w
+    → Decides (result_unwrap_or r false) (Sum (coded 0 w) (coded 1 w) (coded 2 w))
+answered w (Ok b) answers fit = answers.2
+answered w (Err NoPredicate) answers fit = absurd (omega arith)
+answered w (Err (NoColumn i)) answers fit =
+    let out = answers.2 in
+    absurd (omega (arith, columns_at 3 w i fit answers.1))
 
 module _ (w : List ℕ) (s n : ℕ) (v : List ℕ) (is : Corrected w s n v) where
   pub corrected_fit : Columns 3 v
@@ -40,16 +42,6 @@ module _ (w : List ℕ) (s n : ℕ) (v : List ℕ) (is : Corrected w s n v) wher
   second_is long =
       coded_is 1 (coded 1 w) (λ p h. omega (arith, coded_bit 1 p w, is.column p h, bit_small 0 (get_or w p 0), bit_small 1 (get_or w p 0), bit_small p s))
       ∙ mod-eq_of_lt (lt_of_lt_of_le (coded_below 1 w) (pow_mono long))
-
--- one column more
-pub corrected_push : (w : List ℕ) (s n : ℕ) (v : List ℕ) (x : ℕ) → Corrected w s n v
-    → x ≡ bit 0 (get_or w n 0) + 2 * bit 1 (get_or w n 0) + 4 * bit n s → Corrected w s (n + 1) (v ++ x ∷ [])
-corrected_push w s n v x is next = record {
-  long = length_push v x ∙ ap (λ k. k + 1) is.long;
-  column = below_more _ n
-      (λ p h. get_or_append_left v (x ∷ []) 0 p (subst (λ k. p < k) (sym is.long) h) ∙ is.column p h)
-      (get_or_push v x 0 n is.long ∙ next);
-}
 
 -- what `sum` says of the corrected word, and of the word itself
 pub corrected_sums : (w : List ℕ) (s n : ℕ) (v : List ℕ) → Corrected w s n v → length w ≤ n → (b : Bool)

@@ -19,11 +19,12 @@ pub record Found (w : List ℕ) (f : Finding) : Type 0 where
   -- with one column more, the truth is a sum as the book knows it
   pub whole : f.whole ≡ true
 
+-- Each error comes only where its reason is there, so that a word of at most 63 columns in range is refused for memory alone.
 abbrev pub Examined : List ℕ → Result Finding Unfit → Type 0
 Examined w (Ok f) = Columns 3 w × (length w ≤ 63) × Found w f
-Examined w (Err TooLong) = 63 < length w
-Examined w (Err (NoColumn i)) = (i < length w) × (2 ^ 3 ≤ slice_index w i) × Columns 3 (take i w)
-Examined w (Err NoMemory) = Unit {0}
+Examined w (Err (TooLong n)) = (n ≡ length w) × (63 < n)
+Examined w (Err (NoColumn i)) = (length w ≤ 63) × (i < length w) × (2 ^ 3 ≤ slice_index w i) × Columns 3 (take i w)
+Examined w (Err NoMemory) = Columns 3 w × (length w ≤ 63)
 
 -- v has n columns: the inputs of w, and s for what they add up to, as far as the columns go
 pub record Corrected (w : List ℕ) (s n : ℕ) (v : List ℕ) : Type 0 where

@@ -1,5 +1,5 @@
 pub mod Boards
-pub mod Calls
+pub mod Recordings
 pub mod Claims
 pub mod Examined
 pub mod Pasts

@@ -4,15 +4,16 @@ ghost use Rattle.std.specs.Prelude.{ℕ, List, Decides};
 ghost use Rattle.trial.specs.Claims.{Says};
 ghost use Rattle.trial.specs.Examined.{Found};
 
-use crate::call::Call;
 use crate::finding::Finding;
 use crate::recording::Board;
+use calls::Call;
+use std::fmt;
 
 /// How many sets a claim is built over.
 pub const SETS: usize = 4;
 
 /// A claim on a board. Those of one board are built in their order.
-#[derive(Clone, Copy)]
+#[derive(Clone, Copy, PartialEq, Eq, Debug)]
 pub enum Claim {
     /// The third number is the sum of the two others.
     Adds,
@@ -61,46 +62,51 @@ const STICKS: [Call; 11] = [
     Call::Both,
 ];
 
-/// The claims on a board, in the order in which they are built.
-pub fn claims_on(board: Board) -> &'static [Claim] {
-    match board {
-        Board::Adder => &OF_ADDER,
-        Board::Counter => &OF_COUNTER,
+impl Board {
+    /// The claims on the board, in the order in which they are built.
+    pub fn claims(self) -> &'static [Claim] {
+        match self {
+            Board::Adder => &OF_ADDER,
+            Board::Counter => &OF_COUNTER,
+        }
     }
 }
 
-/// The calls that build a claim, which go on from the claim before it where they only hide its output.
-pub fn calls_of(claim: Claim) -> &'static [Call] {
-    match claim {
-        Claim::Adds => &ADDS,
-        Claim::CountsOn => &COUNTS_ON,
-        Claim::HasSum => &HIDE_OUTPUT,
-        Claim::HasNext => &HIDE_OUTPUT,
-        Claim::Sticks => &STICKS,
+impl Claim {
+    /// The calls that build the claim, which go on from the claim before it where they only hide its output.
+    pub fn calls(self) -> &'static [Call] {
+        match self {
+            Claim::Adds => &ADDS,
+            Claim::CountsOn => &COUNTS_ON,
+            Claim::HasSum | Claim::HasNext => &HIDE_OUTPUT,
+            Claim::Sticks => &STICKS,
+        }
+    }
+
+    /// Whether the recorded word that a finding is about meets the claim.
+    pub fn meets(self, finding: &Finding) -> bool
+        ensures { (w : List ℕ) → Found w finding.now → Decides result (Says self w) }
+    {
+        match self {
+            Claim::Adds => finding.right,
+            Claim::CountsOn => finding.second != 1 || finding.right,
+            Claim::HasSum | Claim::HasNext => true,
+            Claim::Sticks => {
+                finding.second == 1 && finding.first == finding.said && finding.right
+            }
+        }
     }
 }
 
-/// The claim in words.
-pub fn words_of(claim: Claim) -> &'static str {
-    match claim {
-        Claim::Adds => "the board's output is the sum of its inputs",
-        Claim::HasSum => "the inputs have a sum",
-        Claim::CountsOn => "if the second number is 1, the next count is the sum",
-        Claim::HasNext => "every count has a next count",
-        Claim::Sticks =>
-            "a counter that sticks is right: the second number is 1, and the next count is both the count and the sum",
-    }
-}
-
-/// Whether the recorded word that a finding is about meets a claim.
-pub fn meets(claim: Claim, finding: Finding) -> bool
-    ensures { (w : List ℕ) → Found w finding → Decides result (Says claim w) }
-{
-    match claim {
-        Claim::Adds => finding.right,
-        Claim::HasSum => true,
-        Claim::CountsOn => finding.second != 1 || finding.right,
-        Claim::HasNext => true,
-        Claim::Sticks => { finding.second == 1 && finding.first == finding.said && finding.right }
+impl fmt::Display for Claim {
+    fn fmt<W: fmt::Write>(&self, f: &mut fmt::Formatter<W>) -> fmt::Result {
+        f.write_str(match self {
+            Claim::Adds => "the board's output is the sum of its inputs",
+            Claim::HasSum => "the inputs have a sum",
+            Claim::CountsOn => "if the second number is 1, the next count is the sum",
+            Claim::HasNext => "every count has a next count",
+            Claim::Sticks =>
+                "a counter that sticks is right: the second number is 1, and the next count is both the count and the sum",
+        })
     }
 }

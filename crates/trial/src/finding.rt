@@ -1,5 +1,5 @@
 //! What a word that an adding board recorded says, beside what it should say.
-ghost use Rattle.std.specs.Prelude.{◌≡◌, ℕ, ◌+◌, ◌*◌, ◌%◌, ◌^◌, ◌<◌, ◌≤◌, length, IfOk, Decides};
+ghost use Rattle.std.specs.Prelude.{◌≡◌, ◌+◌, ◌*◌, ◌%◌, ◌^◌, ◌≤◌, length, IfOk, Decides, slice_index};
 ghost use Rattle.words.specs.Sets.{bit};
 ghost use Rattle.words.specs.Words.{Columns, coded};
 ghost use Rattle.words.specs.Relations.{Sum};
@@ -7,6 +7,8 @@ ghost use Rattle.trial.specs.Examined.{Examined, Corrected};
 
 use books::{Standard, ask};
 use std::alloc::{AllocError, Global};
+use std::error::Error;
+use std::fmt;
 use words::{first_outside, is_member, number};
 
 /// A recorded word, taken apart: sets 0 and 1 are the inputs, and set 2 is what the board makes of them.
@@ -26,88 +28,98 @@ pub struct Finding {
 }
 
 /// Why a word is not examined.
-#[derive(Clone, Copy)]
+#[derive(Clone, Copy, PartialEq, Eq, Debug)]
 pub enum Unfit {
-    /// It has more than 63 columns.
-    TooLong,
+    /// It has so many columns, which is more than 63.
+    TooLong(usize),
     /// The column at this position is not below 8.
     NoColumn(usize),
     NoMemory,
+}
+
+impl fmt::Display for Unfit {
+    fn fmt<W: fmt::Write>(&self, f: &mut fmt::Formatter<W>) -> fmt::Result {
+        match self {
+            Unfit::TooLong(columns) => write!(
+                f,
+                "the word has length {columns}, and at most 63 can be examined"
+            ),
+            Unfit::NoColumn(at) => write!(f, "the column at position {at} is not below 8"),
+            Unfit::NoMemory => write!(f, "there is no memory for the word"),
+        }
+    }
+}
+
+impl Error for Unfit {}
+
+impl From<AllocError> for Unfit {
+    ghost use Rattle.trial.specs.declared.finding.Unfit.TheVariants.{NoMemory};
+
+    ghost from_gives = { λ _ e. e ≡ NoMemory };
+
+    fn from(_error: AllocError) -> Unfit {
+        Unfit::NoMemory
+    }
 }
 
 // Whether `sum` holds of the three sets of a word.
 fn sums(word: &[u8]) -> bool
     ensures { Columns 3 word.now → Decides result (Sum (coded 0 word.now) (coded 1 word.now) (coded 2 word.now)) }
 {
-    match ask(&Standard, Standard::SUM, word) {
-        Ok(holds) => holds,
-        Err(_) => false,
-    }
+    ask(&Standard, Standard::SUM, word).unwrap_or(false)
 }
 
-// The column with the inputs of another and an output of its own.
-fn column(inputs: u8, output: bool) -> u8
-    ensures { (x : ℕ) → x < 2 → Decides output (x ≡ 1) → result ≡ bit 0 inputs + 2 * bit 1 inputs + 4 * x }
+// The column at a position: the inputs of a word there, none past its end, and that bit of `sum`.
+fn corrected_column(word: &[u8], sum: u64, p: usize) -> u8
+    ensures { result ≡ bit 0 (slice_index word.now p) + 2 * bit 1 (slice_index word.now p) + 4 * bit p sum }
 {
-    (inputs & 3) + 4 * u8::from(output)
+    let inputs = word.get(p).copied().unwrap_or(0);
+    (inputs & 3) + 4 * u8::from(is_member(sum, p))
 }
 
 // The word of so many columns that has the inputs of another and the output `sum`.
-fn corrected(heap: Global, word: &[u8], sum: u64, columns: usize) -> Result<Vec<u8>, AllocError>
+fn corrected(alloc: Global, word: &[u8], sum: u64, columns: usize) -> Result<Vec<u8>, AllocError>
     ensures { IfOk result (λ v. Corrected word.now sum columns v.items) }
 {
-    let mut fixed = Vec::new(heap);
-    for p in 0..columns {
-        let inputs = if p < word.len() { word[p] } else { 0 };
-        fixed.push(column(inputs, is_member(sum, p)))?;
-    }
-    Ok(fixed)
+    (0..columns)
+        .map(|p| corrected_column(word, sum, p))
+        .collect(alloc)
 }
 
 // Whether `sum` holds of a word's inputs and of as much of `sum` as so many columns have room for.
-fn sums_within(heap: Global, word: &[u8], sum: u64, columns: usize) -> Result<bool, AllocError>
+fn sums_within(alloc: Global, word: &[u8], sum: u64, columns: usize) -> Result<bool, AllocError>
     ensures { IfOk result (λ b. length word.now ≤ columns → Decides b (Sum (coded 0 word.now) (coded 1 word.now) (sum % 2 ^ columns))) }
 {
-    let fixed = corrected(heap, word, sum, columns)?;
-    Ok(sums(fixed.as_slice()))
+    Ok(sums(&corrected(alloc, word, sum, columns)?))
 }
 
 // One set of a word that has at most 64 columns, as a number.
 fn set_of(word: &[u8], set: u8) -> u64
     ensures { length word.now ≤ 64 → result ≡ coded set word.now }
 {
-    match number(word, set) {
-        Some(n) => n,
-        None => 0,
-    }
+    number(word, set).unwrap_or(0)
 }
 
 /// Takes a recorded word apart, and asks the standard book about what the board says and about the truth.
-pub fn examine(heap: Global, word: &[u8]) -> Result<Finding, Unfit>
+pub fn examine(alloc: Global, word: &[u8]) -> Result<Finding, Unfit>
     ensures { Examined word.now result }
 {
     if word.len() > 63 {
-        return Err(Unfit::TooLong);
+        return Err(Unfit::TooLong(word.len()));
     }
-    if let Some(i) = first_outside(word, 3) {
-        return Err(Unfit::NoColumn(i));
+    if let Some(at) = first_outside(word, 3) {
+        return Err(Unfit::NoColumn(at));
     }
     let first = set_of(word, 0);
     let second = set_of(word, 1);
     let truth = first + second;
-    let Ok(room) = sums_within(heap, word, truth, word.len()) else {
-        return Err(Unfit::NoMemory);
-    };
-    let Ok(whole) = sums_within(heap, word, truth, word.len() + 1) else {
-        return Err(Unfit::NoMemory);
-    };
     Ok(Finding {
         first,
         second,
         said: set_of(word, 2),
         truth,
         right: sums(word),
-        room,
-        whole,
+        room: sums_within(alloc, word, truth, word.len())?,
+        whole: sums_within(alloc, word, truth, word.len() + 1)?,
     })
 }

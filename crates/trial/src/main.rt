@@ -2,7 +2,6 @@
 #![tactic(auto)]
 
 mod account;
-mod call;
 mod claim;
 mod finding;
 mod labels;
@@ -12,7 +11,7 @@ mod trying;
 
 use crate::past::Past;
 
-fn run(rt: &HostRuntime) -> anyhow::Result<()> {
+fn run(rt: &(impl Print + Input + AllocGlobal)) -> anyhow::Result<()> {
     let mut past = Past::new();
     for line in rt.lines(rt.alloc()) {
         let line = line?;

@@ -5,13 +5,15 @@ ghost use Rattle.trial.specs.Pasts.{last_of, LastIs};
 use crate::finding::Finding;
 use crate::recording::Board;
 
-/// A recorded word that was examined: its finding, and how many columns it has.
+/// A recorded word that was examined: its board, its finding, and how many columns it has.
 #[derive(Clone, Copy)]
 pub struct Seen {
+    pub board: Board,
     pub finding: Finding,
     pub columns: usize,
 }
 
+/// There are two boards, and a field for each needs no memory that could run out, as a map would.
 #[derive(Clone, Copy)]
 pub struct Past {
     adder: Option<Seen>,
@@ -39,11 +41,11 @@ impl Past {
         }
     }
 
-    /// Keeps a word in place of the board's last one.
-    pub fn note(&mut self, board: Board, seen: Seen)
-        ensures { LastIs board seen self.old self.new }
+    /// Keeps a word in place of its board's last one.
+    pub fn note(&mut self, seen: Seen)
+        ensures { LastIs seen.board seen self.old self.new }
     {
-        match board {
+        match seen.board {
             Board::Adder => self.adder = Some(seen),
             Board::Counter => self.counter = Some(seen),
         }

@@ -1,88 +1,92 @@
 //! The account of the claims on a board, for whoever built it.
-use crate::call::{BUDGET, Call, Work, make};
-use crate::claim::{Claim, SETS, calls_of, claims_on, meets, words_of};
-use crate::labels::{Bits, Labels, labels_of, tell_set};
+use crate::claim::{Claim, SETS};
+use crate::labels::Row;
 use crate::past::Seen;
 use crate::recording::Board;
+use calls::{Call, Step, Stopped, Work, make};
 use judging::Verdict;
 use std::io;
-use tray::{Refusal, Tray};
+use tray::Tray;
 use words::number;
+
+// How many states one call may meet.
+const BUDGET: usize = 64;
 
 // How many tables the tray holds at most.
 const DEPTH: usize = 8;
 
-// A slot has a row of 17 numbers for each state of the budget; there are eight for tables, and two for work.
-const TABLES: usize = 8704;
+// A slot has a row for each state of the budget: a number for each column over the sets, and a mark.
+const SLOT: usize = BUDGET * ((1 << SETS) + 1);
 
-const SPARE: usize = 2176;
+const TABLES: usize = DEPTH * SLOT;
 
-/// Builds and judges the claims on a board, and prints an account of each beside the last word that it recorded.
-pub fn tell_claims(rt: &HostRuntime, board: Board, last: Option<Seen>) -> io::Result<()> {
+const SPARE: usize = 2 * SLOT;
+
+/// Builds and judges the claims on a board, and prints an account of each beside the last word that it recorded. A step
+/// that is refused ends the account.
+pub fn tell_claims(rt: &impl Print, board: Board, last: Option<Seen>) -> io::Result<()> {
     let mut tables = [0u16; TABLES];
     let mut spare = [0u16; SPARE];
     let mut tray = Tray::over(&mut tables, &mut spare);
-    tell_each(rt, &mut tray, board, last)
+    match tell_each(rt, &mut tray, board, last) {
+        Err(Stopped::Failed(error)) => Err(error),
+        Err(refused) => println!(rt; "  {refused}"),
+        Ok(()) => Ok(()),
+    }
 }
 
-// The claims one by one, up to the first that is refused.
+// The claims one by one.
 fn tell_each(
-    rt: &HostRuntime,
+    rt: &impl Print,
     tray: &mut Tray,
     board: Board,
     last: Option<Seen>,
-) -> io::Result<()> {
-    let names = labels_of(board);
-    if let Err(why) = tray.open(SETS, BUDGET, DEPTH) {
-        return tell_refusal(rt, "open", why);
-    }
+) -> Result<(), Stopped> {
+    tray.open(SETS, BUDGET, DEPTH)
+        .map_err(|why| Stopped::Refused(Step::Open, why))?;
     let mut work = Work::new();
-    for claim in claims_on(board) {
-        println!(rt; "{}, a claim: {}", names.board, words_of(*claim))?;
-        if !build(rt, tray, &mut work, calls_of(*claim))? {
-            return Ok(());
-        }
-        tell_verdict(rt, tray, names)?;
-        tell_last(rt, names, *claim, last)?;
+    for claim in board.claims() {
+        println!(rt; "{}, a claim: {claim}", board.labels().board)?;
+        build(rt, tray, &mut work, claim.calls())?;
+        tell_verdict(rt, tray, board)?;
+        tell_last(rt, *claim, last)?;
     }
     Ok(())
 }
 
-fn tell_refusal(rt: &HostRuntime, call: &str, why: Refusal) -> io::Result<()> {
-    println!(rt; "  {call}: refused, check {}", why.number())
-}
-
-// Makes the calls of a claim, each with its counts; whether none was refused.
-fn build(rt: &HostRuntime, tray: &mut Tray, work: &mut Work, calls: &[Call]) -> io::Result<bool> {
+// Makes the calls of a claim, each with its counts.
+fn build(
+    rt: &impl Print,
+    tray: &mut Tray,
+    work: &mut Work<BUDGET>,
+    calls: &[Call],
+) -> Result<(), Stopped> {
     for call in calls {
-        match make(tray, work, *call) {
-            Ok((met, kept)) => println!(rt; "  {call}: {met} met, {kept} kept")?,
-            Err(why) => {
-                println!(rt; "  {call}: refused, check {}", why.number())?;
-                return Ok(false);
-            }
-        }
+        let (met, kept) = make(tray, work, *call).map_err(|why| Stopped::Refused(
+            Step::Make(*call),
+            why,
+        ))?;
+        println!(rt; "  {call}: {met} met, {kept} kept")?;
     }
-    Ok(true)
+    Ok(())
 }
 
 // The verdict on the claim on top, and the shortest word that fails it.
-fn tell_verdict(rt: &HostRuntime, tray: &Tray, names: Labels) -> io::Result<()> {
+fn tell_verdict(rt: &impl Print, tray: &Tray, board: Board) -> Result<(), Stopped> {
     let mut meeting = [0u8; BUDGET];
     let mut failing = [0u8; BUDGET];
-    match tray.judge(&mut meeting, &mut failing) {
-        Ok(judgement) => {
-            tell_sets_that_meet(rt, judgement.verdict, judgement.states)?;
-            match judgement.counterexample {
-                Some(columns) => tell_failing(rt, names, &failing[0..columns]),
-                None => println!(rt; "No word fails it."),
-            }
-        }
-        Err(why) => tell_refusal(rt, "judge", why),
+    let judgement = tray
+        .judge(&mut meeting, &mut failing)
+        .map_err(|why| Stopped::Refused(Step::Judge, why))?;
+    tell_sets_that_meet(rt, judgement.verdict, judgement.states)?;
+    match judgement.counterexample {
+        Some(columns) => tell_failing(rt, board, &failing[0..columns])?,
+        None => println!(rt; "No word fails it.")?,
     }
+    Ok(())
 }
 
-fn tell_sets_that_meet(rt: &HostRuntime, verdict: Verdict, states: usize) -> io::Result<()> {
+fn tell_sets_that_meet(rt: &impl Print, verdict: Verdict, states: usize) -> io::Result<()> {
     let which = match verdict {
         Verdict::NoSets => "No sets meet the claim, whatever the width",
         Verdict::SomeSets => "Some sets meet the claim and some do not",
@@ -93,125 +97,78 @@ fn tell_sets_that_meet(rt: &HostRuntime, verdict: Verdict, states: usize) -> io:
 }
 
 // The shortest word that fails a claim, drawn like a recording.
-fn tell_failing(rt: &HostRuntime, names: Labels, word: &[u8]) -> io::Result<()> {
+fn tell_failing(rt: &impl Print, board: Board, word: &[u8]) -> io::Result<()> {
     let columns = word.len();
     if columns == 0 {
         return println!(rt; "The shortest word that fails it is empty: each number is 0.");
     }
     println!(rt; "The shortest word that fails it has length {columns}, position 0 leftmost:")?;
-    tell_row(rt, names.first, word, 0)?;
-    tell_row(rt, names.second, word, 1)?;
-    tell_row(rt, names.said, word, 2)
-}
-
-// One set of a word, which has at most 64 columns.
-fn tell_row(rt: &HostRuntime, name: &str, word: &[u8], set: u8) -> io::Result<()> {
-    match number(word, set) {
-        Some(set) => tell_set(
-            rt,
-            name,
-            Bits {
-                set,
-                columns: word.len(),
-            },
-        ),
-        None => println!(rt; "  {name}: too long to be drawn"),
+    let names = board.labels();
+    for (set, name) in [(0, names.first), (1, names.second), (2, names.said)] {
+        match number(word, set) {
+            Some(set) => println!(rt; "{}", Row { name, set, columns })?,
+            None => println!(rt; "  {name}: too long to be drawn")?,
+        }
     }
+    Ok(())
 }
 
 // The board's last recorded word, beside the claim.
-fn tell_last(rt: &HostRuntime, names: Labels, claim: Claim, last: Option<Seen>) -> io::Result<()> {
+fn tell_last(rt: &impl Print, claim: Claim, last: Option<Seen>) -> io::Result<()> {
     let Some(seen) = last else {
         return println!(rt; "No word of this board was recorded before.");
     };
     let columns = seen.columns;
-    if meets(claim, seen.finding) {
+    if claim.meets(&seen.finding) {
         return println!(rt; "The last recorded word, of length {columns}, meets it.");
     }
     println!(rt; "The last recorded word, of length {columns}, fails it too:")?;
-    tell_seen(rt, names, seen)
-}
-
-// The three sets of a recorded word.
-fn tell_seen(rt: &HostRuntime, names: Labels, seen: Seen) -> io::Result<()> {
-    let columns = seen.columns;
-    let first = seen.finding.first;
-    let second = seen.finding.second;
-    let said = seen.finding.said;
-    tell_set(
-        rt,
-        names.first,
-        Bits {
-            set: first,
-            columns,
-        },
-    )?;
-    tell_set(
-        rt,
-        names.second,
-        Bits {
-            set: second,
-            columns,
-        },
-    )?;
-    tell_set(rt, names.said, Bits { set: said, columns })
+    for row in &seen.rows() {
+        println!(rt; "{row}")?;
+    }
+    Ok(())
 }
 
 #[cfg(test)]
 mod tests {
     use super::*;
-
-    // Makes the calls of a claim; whether none was refused.
-    fn built(tray: &mut Tray, work: &mut Work, calls: &[Call]) -> bool {
-        for call in calls {
-            if make(tray, work, *call).is_err() {
-                return false;
-            }
-        }
-        true
-    }
+    use tray::Refusal;
 
     // Builds the first claims on a board, so many, each on a tray with those before it.
-    fn all_built(tray: &mut Tray, board: Board, count: usize) -> bool {
-        let mut work = Work::new();
-        if tray.open(SETS, BUDGET, DEPTH).is_err() {
-            return false;
-        }
-        for claim in claims_on(board).iter().take(count) {
-            if !built(tray, &mut work, calls_of(*claim)) {
-                return false;
+    fn all_built(tray: &mut Tray, board: Board, count: usize) -> Result<(), Refusal> {
+        let mut work: Work<BUDGET> = Work::new();
+        tray.open(SETS, BUDGET, DEPTH)?;
+        for claim in board.claims().iter().take(count) {
+            for call in claim.calls() {
+                make(tray, &mut work, *call)?;
             }
         }
-        true
+        Ok(())
     }
 
     // The verdict on the last of the first claims on a board, and how many states its table has.
-    fn decided(board: Board, count: usize) -> Option<(Verdict, usize)> {
+    fn decided(board: Board, count: usize) -> Result<(Verdict, usize), Refusal> {
         let mut tables = [0u16; TABLES];
         let mut spare = [0u16; SPARE];
         let mut tray = Tray::over(&mut tables, &mut spare);
-        if !all_built(&mut tray, board, count) {
-            return None;
-        }
-        match tray.judge(&mut [0; BUDGET], &mut [0; BUDGET]) {
-            Ok(judgement) => Some((judgement.verdict, judgement.states)),
-            Err(_) => None,
-        }
+        all_built(&mut tray, board, count)?;
+        let judgement = tray.judge(&mut [0; BUDGET], &mut [0; BUDGET])?;
+        Ok((judgement.verdict, judgement.states))
     }
 
     // The values are those of the claims as relations of numbers, found by trying all words of up to three columns.
     #[test]
     fn claims_on_an_adder(rt: HostRuntime) {
-        assert_eq!(rt; claims_on(Board::Adder).len(), 2);
-        assert_eq!(rt; decided(Board::Adder, 1), Some((Verdict::SomeSets, 3)));
-        assert_eq!(rt; decided(Board::Adder, 2), Some((Verdict::AllSets, 1)));
+        assert_eq!(rt; Board::Adder.claims().len(), 2);
+        assert_eq!(rt; decided(Board::Adder, 1), Ok((Verdict::SomeSets, 3)));
+        assert_eq!(rt; decided(Board::Adder, 2), Ok((Verdict::AllSets, 1)));
     }
 
     #[test]
     fn claims_on_a_counter(rt: HostRuntime) {
-        assert_eq!(rt; claims_on(Board::Counter).len(), 3);
-        assert_eq!(rt; decided(Board::Counter, 1), Some((Verdict::SomeSets, 5)));
-        assert_eq!(rt; decided(Board::Counter, 2), Some((Verdict::AllSets, 1)));
-        assert_eq!(rt; decided(Board::Counter, 3), Some((Verdict::NoSets, 1)));
+        assert_eq!(rt; Board::Counter.claims().len(), 3);
+        assert_eq!(rt; decided(Board::Counter, 1), Ok((Verdict::SomeSets, 5)));
+        assert_eq!(rt; decided(Board::Counter, 2), Ok((Verdict::AllSets, 1)));
+        assert_eq!(rt; decided(Board::Counter, 3), Ok((Verdict::NoSets, 1)));
     }
 }

@@ -1,11 +1,11 @@
 -- What a word codes: by positions, by every choice of sets, and with zeros at its end.
-use Rattle.std.proofs.Common.{◌≡◌, ℕ, zero, suc, ◌+◌, ◌-◌, ◌*◌, ◌/◌, ◌%◌, ◌^◌, ◌<◌, ◌≤◌, ◌↔◌, List, [], ◌∷◌, ◌++◌, length, get_or, take, drop, replicate, sym, refl, ap, ◌∙◌, subst, ⊎_elim, pow-suc, arith, pow_pos}
+use Rattle.std.proofs.Common.{◌≡◌, ℕ, zero, suc, ◌+◌, ◌*◌, ◌/◌, ◌%◌, ◌^◌, ◌<◌, ◌≤◌, ◌↔◌, List, [], ◌∷◌, ◌++◌, length, get_or, take, replicate, sym, refl, ap, ◌∙◌, subst, ⊎_elim, pow-suc, arith, pow_pos}
 use Rattle.std.specs.Prelude.{Option, Some, None, MatchOption}
 use Rattle.std.specs.List.{HoldsAt, AllWithin}
 use Rattle.std.proofs.lemmas.List.{take_all}
 use lib.Arith.{half_le, mod-mul}
 use Rattle.std.proofs.lemmas.Bool.{cases_lt}
-use Rattle.std.proofs.lemmas.List.{take_more, drop_more}
+use Rattle.std.proofs.lemmas.List.{take_more}
 use Rattle.words.specs.Sets.{bit, Member}
 use Rattle.words.specs.Words.{Columns, coded}
 use Rattle.words.proofs.Bits.{bit_small, bit_of_zero, bit_low, bit_high}
@@ -32,13 +32,6 @@ coded_by_bits i (c ∷ w) s same =
     let whole : s % (2 ^ length w * 2) ≡ (s / 2 % 2 ^ length w) * 2 + s % 2 = mod-mul s (pow_pos (length w)) (omega arith) in
     let long : s % 2 ^ suc (length w) ≡ s % (2 ^ length w * 2) = ap (λ m. s % m) (pow-suc 2 (length w)) in
     omega arith
-
--- the columns from k - 1 on, where those from k on are known
-pub coded_from : (i : ℕ) (w : List ℕ) (k : ℕ) → 0 < k → k ≤ length w → coded i (drop (k - 1) w) ≡ bit i (get_or w (k - 1) 0) + 2 * coded i (drop k w)
-coded_from i w k some within =
-    let more : drop (k - 1) w ≡ get_or w (k - 1) 0 ∷ drop (k - 1 + 1) w = drop_more w (k - 1) 0 (omega arith) in
-    let back : k - 1 + 1 ≡ k = omega arith in
-    ap (coded i) (more ∙ ap (λ j. get_or w (k - 1) 0 ∷ drop j w) back)
 
 -- ---- columns in range
 

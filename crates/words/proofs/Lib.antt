@@ -1,4 +1,5 @@
 pub mod Bits
+pub mod Backwards
 pub mod Coding
 pub mod Orders
 pub mod Reading

@@ -1,10 +1,9 @@
-use Rattle.judging.proofs.Walks.{walk_more, walk_end}
+use Rattle.std.proofs.Common.{refl, sym, subst}
+use Rattle.judging.specs.Walk.{FirstLong}
+use Rattle.judging.proofs.Walks.{links_long}
 use Rattle.judging.proofs.walk.word_length.Goals as goal
-
-pub loop-link-preserved : goal.loop-link-preserved
-loop-link-preserved c =
-    walk_more c.args.rows.now c.args.state c.loop-link.count c.loop-link.at c.loop-link.invariant c.in-Some.link c.in-Some.ensures
 
 pub returns : goal.returns
 returns c =
-    walk_end c.args.rows.now c.args.state c.loop-link.count c.loop-link.at c.loop-link.invariant c.in_default.ensures
+    let ran = c.count.ensures.ran in
+    subst (FirstLong c.args.rows.now c.args.state) (sym ran.2) (links_long c.args.rows.now ran.0 _ _ ran.1.0 refl ran.1.1.1 ran.1.1.2)

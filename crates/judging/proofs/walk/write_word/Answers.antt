@@ -1,24 +1,27 @@
-use Rattle.std.proofs.Common.{◌≤◌, length, arith}
-use Rattle.judging.proofs.Walks.{spell_start, spell_more, spell_ends, spell_end}
+use Rattle.std.proofs.Common.{◌≤◌, length, arith, refl, ap, ◌∙◌}
+use Rattle.std.specs.Iterator.Adapters.{zip_first, zip_second}
+use Rattle.judging.proofs.Walks.{writing_start, writing_more, writing_end}
 use Rattle.judging.proofs.walk.write_word.Goals as goal
 
 pub loop-k-init : goal.loop-k-init
-loop-k-init c = spell_start c.args.rows.now c.args.state c.args.count c.args.buffer.now
-
-pub returns-in_default : goal.returns-in_default
-returns-in_default c =
-    let room : c.args.count ≤ length c.loop-k.buffer = omega (arith, c.requires.room, c.loop-k.auto.buffer) in
-    spell_ends c.args.rows.now c.args.state c.args.count c.loop-k.k c.loop-k.at c.args.buffer.now c.loop-k.buffer c.loop-k.invariant
-    c.loop-k.auto.k room c.loop-k-test.true c.in_default.ensures
+loop-k-init c =
+    let same = c.into_iter-k-iterator.ensures.into_iter_gives in
+    let zip = c.zip-k-items.ensures in (
+      (tt, tt),
+      tt,
+      writing_start c.args.rows.now c.args.state c.args.count c.args.buffer.now _ _ _ (ap zip_first same ∙ zip.first) c.rev.ensures.source (ap zip_second same ∙ zip.second) refl refl,
+    )
 
 pub loop-k-preserved : goal.loop-k-preserved
 loop-k-preserved c =
-    let room : c.args.count ≤ length c.loop-k.buffer = omega (arith, c.requires.room, c.loop-k.auto.buffer) in
-    spell_more c.args.rows.now c.args.state c.args.count c.loop-k.k c.loop-k.at c.args.buffer.now c.loop-k.buffer c.loop-k.invariant
-    c.loop-k.auto.k room c.loop-k-test.true c.in-Some.link c.in-Some.ensures
+    let room : c.args.count ≤ length c.loop-k.buffer = omega (arith, c.requires.room, c.loop-k.auto.buffer) in (
+      (tt, tt),
+      tt,
+      writing_more c.args.rows.now c.args.state c.args.count c.args.buffer.now c.loop-k.buffer room _ _ c.loop-k.invariant.2 c.in-Some.k c.in-Some.link
+          c.in-Some.ensures.steps,
+    )
 
 pub returns : goal.returns
 returns c =
     let room : c.args.count ≤ length c.loop-k.buffer = omega (arith, c.requires.room, c.loop-k.auto.buffer) in
-    spell_end c.args.rows.now c.args.state c.args.count c.loop-k.k c.loop-k.at c.args.buffer.now c.loop-k.buffer c.loop-k.invariant
-    c.loop-k.auto.k room (omega arith)
+    writing_end c.args.rows.now c.args.state c.args.count c.args.buffer.now c.loop-k.buffer room _ c.next.new.self c.loop-k.invariant.2 c.in-None.ensures.steps

@@ -1,9 +1,7 @@
-use Rattle.std.proofs.Common.{◌+◌, ◌*◌, ◌≤◌}
-use Rattle.saving.specs.Laying.{Lays, described, nexts_of}
+use Rattle.words.specs.Described.{described}
+use Rattle.saving.specs.Laying.{Lays, nexts_of}
 use Rattle.saving.proofs.table.lay_nexts.Given as goal
 
 -- the next states by the columns so far are laid
 abbrev pub invariant-loop-column : goal.invariant-loop-column
-invariant-loop-column l =
-    Lays (nexts_of (described l.rows) l.state l.column) l.at l.initial.buffer l.buffer l.end
-    × (l.end ≤ l.at + 6 * l.column)
+invariant-loop-column l = Lays (nexts_of (described l.rows) l.state l.column) l.initial.text l.text

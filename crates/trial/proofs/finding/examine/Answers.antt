@@ -15,6 +15,6 @@ returns c =
       c.in_default.ensures,
       c.if-word-gt63.false,
       found c.args.word.now c.set_of-first.result c.set_of-second.result (c.set_of-first.ensures short) (c.set_of-second.ensures short)
-          c.set_of.result c.sums.result c.in-Ok.room c.in-Ok-sums_within.whole (c.set_of.ensures short)
-          (c.sums.ensures c.in_default.ensures) (c.in-Ok.ensures same) (c.in-Ok-sums_within.ensures more),
+          c.set_of.result c.sums.result c.in_ok-sums_within.field-0 c.in_ok-sums_within-2.field-0 (c.set_of.ensures short)
+          (c.sums.ensures c.in_default.ensures) (c.in_ok-sums_within.ensures same) (c.in_ok-sums_within-2.ensures more),
     )

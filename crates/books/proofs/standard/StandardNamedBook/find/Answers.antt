@@ -1,37 +1,21 @@
-use Rattle.std.proofs.Common.{◌≡◌, ℕ, ◌<◌, [], get_or, Some, sym, refl, ap, ◌∙◌, subst, zero-add, arith, below_more}
-use Rattle.std.proofs.lemmas.Slice.Eq.{slice_eq-Decides}
-use Rattle.std.proofs.lemmas.Bool.Decides.{not_from_Decides, Decides-eqb}
-use Rattle.words.proofs.Deciding.{each}
-use Rattle.books.specs.Names.{IsName}
+use Rattle.std.proofs.Common.{rules, ◌≡◌, position, refl, sym, ap, subst, ◌∙◌}
+use Rattle.std.specs.Str.{bytes_eq}
+use Rattle.std.proofs.lemmas.Iterator.{YieldsList-from_slice}
+use Rattle.std.proofs.lemmas.Iterator.Search.{position_from_yields_List}
+use Rattle.std.proofs.lemmas.Slice.Eq.{bytes_eq-Decides, slice_eq-Decides}
+use Rattle.std.proofs.lemmas.Bool.Decides.{same_from_decides, Decides-eqb}
+use Rattle.books.specs.Names.{Finds}
 use Rattle.books.specs.Standard.{names}
-use Rattle.books.proofs.Places.{place_found, place_none}
+use Rattle.books.proofs.Places.{place_found}
 use Rattle.books.proofs.standard.StandardNamedBook.find.Goals as goal
 
-are_names : (p : ℕ) → p < 6 → IsName (get_or names p [])
-are_names = each 6 (λ p. IsName (get_or names p [])) ((refl, omega arith), ((refl, omega arith), ((refl, omega arith), ((refl, omega arith), ((refl, omega arith), ((refl, omega arith), tt))))))
+pub returns-clause-numbered : goal.returns-clause-numbered
+returns-clause-numbered c =
+    let at : c.position.result ≡ position (λ n. bytes_eq c.args.name.now n) names =
+    position_from_yields_List (λ k. bytes_eq c.args.name.now k.name) _ _ c.position.result c.position.ensures.ran (YieldsList-from_slice c.iter.result.rest.now refl) (λ x b q k. search (rules, same_from_decides, bytes_eq-Decides, slice_eq-Decides, Decides-eqb))
+    ∙ ap (position (λ k. bytes_eq c.args.name.now k.name)) c.iter.ensures.rest in
+    let same : c.map.result ≡ c.position.result = search rules in
+    same ∙ at
 
-pub loop-p-init : goal.loop-p-init
-loop-p-init c k h e = omega arith
-
-pub returns-then-eq : goal.returns-then-eq
-returns-then-eq c =
-    let p : ℕ = c.loop-p.p in
-    let known : c.args.name.now ≡ get_or names p [] =
-    (slice_eq-Decides Decides-eqb c.args.name.now _ c.eq.result c.eq.ensures).0 c.if-eq.true ∙ ap (λ i. get_or names i []) c.from.ensures in
-    record {
-      numbered = sym (place_found names c.args.name.now 0 p c.loop-p-test.true known c.loop-p.invariant ∙ ap Some (zero-add p));
-      below = c.loop-p-test.true;
-      named = subst IsName (sym known) (are_names p c.loop-p-test.true);
-      exact = (c.loop-p-test.true, known);
-    }
-
-pub loop-p-preserved : goal.loop-p-preserved
-loop-p-preserved c =
-    below_more _ _ c.loop-p.invariant
-    (λ e. not_from_Decides c.eq.result (slice_eq-Decides Decides-eqb c.args.name.now _ c.eq.result c.eq.ensures) c.if-eq.false
-    (e ∙ ap (λ i. get_or names i []) (sym c.from.ensures)))
-
-pub returns : goal.returns
-returns c =
-    let none : (k : ℕ) → k < 6 → c.args.name.now ≡ get_or names k [] → ⊥ = λ k h. c.loop-p.invariant k (omega arith) in
-    record { numbered = sym (place_none names c.args.name.now 0 none); below = tt; named = tt; exact = none }
+pub returns-clause-exact : goal.returns-clause-exact
+returns-clause-exact c = subst (Finds names c.args.name.now) (sym (returns-clause-numbered c)) (place_found names c.args.name.now)

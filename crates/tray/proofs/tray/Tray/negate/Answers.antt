@@ -1,65 +1,42 @@
-use Rattle.std.proofs.Common.{◌≡◌, ℕ, ◌+◌, ◌-◌, ◌*◌, ◌≤◌, Bool, true, List, length, sym, refl, subst, arith}
+use Rattle.std.proofs.Common.{◌≡◌, ℕ, ◌-◌, ◌≤◌, Bool, true, List, sym, refl, subst, arith}
 use Rattle.words.specs.Residuals.{SameResidual}
-use Rattle.words.specs.Rows.{width}
 use Rattle.tray.specs.Building.{Built}
-use Rattle.tray.specs.View.{slot, size_of, says}
-use Rattle.tray.proofs.Builts.{Keeps, built_keeps, tray_built, fits_slot}
-use Rattle.tray.proofs.Checking.{within_slots}
-use Rattle.tray.proofs.Landings.{slot_fits}
-use Rattle.tray.proofs.Negatings.{negated_at, not_moves, same_control}
+use Rattle.tray.specs.View.{size_of, says}
+use Rattle.tray.proofs.Builts.{landed_call, fits_slot}
+use Rattle.tray.proofs.Negatings.{negated, not_moves, same_control}
 use Rattle.tray.proofs.Recovering.{table_in, by_sets_in}
 use Rattle.tray.proofs.tray.Tray.negate.Goals as goal
 
-pub flip_marks-requires : goal.flip_marks-requires
-flip_marks-requires c =
+pub turn_over-requires-clause-fits : goal.turn_over-requires-clause-fits
+turn_over-requires-clause-fits c =
     let t = c.args.self.now in
-    let k = t.control in
-    let top : ℕ = k.count - 1 in
-    let some : 1 ≤ k.count = c.if-control-lt1.false in
-    let fits : size_of k top ≤ k.budget = fits_slot k t.tables.now top (t.live top (omega arith)) in
-    record {
-      sets = t.few_sets;
-      few = omega (arith, c.from-size.ensures, t.few_states);
-      room = subst (λ s. top * s + c.from-size.result * width k.sets ≤ length t.tables.now) (sym c.slot_length.ensures.is)
-          (slot_fits k.sets k.budget c.from-size.result (length t.tables.now) (top * slot k) (omega (arith, c.from-size.ensures))
-          (within_slots k.depth top (slot k) (length t.tables.now) (omega (arith, t.holds)) t.slots));
-    }
+    let some : 1 ≤ t.control.count = c.if-control-lt1.false in
+    fits_slot t.control t.tables.now (t.control.count - 1) (t.live (t.control.count - 1) (omega arith))
 
-pub invariant_of-self-2 : goal.invariant_of-self-2
-invariant_of-self-2 c =
+pub invariant_of-self-2-clause-live : goal.invariant_of-self-2-clause-live
+invariant_of-self-2-clause-live c =
     let t = c.args.self.now in
     let k = t.control in
     let top : ℕ = k.count - 1 in
-    let tables : List ℕ = t.tables.now in
-    let L : List ℕ → Bool = says k tables top in
-    let size : ℕ = c.from-size.result in
+    let L : List ℕ → Bool = says k t.tables.now top in
     let some : 1 ≤ k.count = c.if-control-lt1.false in
     let stands = t.live top (omega arith) in
-    let landed = negated_at k tables c.flip_marks.new.tables top c.slot_length.result size c.slot_length.ensures.is c.from-size.ensures
-    (fits_slot k tables top stands) (table_in k tables top stands) c.flip_marks.ensures in
-    subst (λ k'. Keeps k' c.flip_marks.new.tables t.spare.now) (same_control k size some c.from-size.ensures)
-    (built_keeps t top c.slot_length.result (SameResidual k.sets L) (λ w. L w ≡ true → ⊥) c.flip_marks.new.tables t.spare.now size size
-    c.slot_length.ensures.is (omega (arith, t.holds)) (omega arith) landed (not_moves k.sets L (by_sets_in k tables top stands)) c.flip_marks.auto.tables refl)
+    let landed = negated k t.tables.now c.turn_over.new.tables top (fits_slot k t.tables.now top stands) (table_in k t.tables.now top stands) c.turn_over.ensures in
+    let call = landed_call t top (SameResidual k.sets L) (λ w. L w ≡ true → ⊥) (omega (arith, t.holds)) (omega arith) (not_moves k.sets L (by_sets_in k t.tables.now top stands))
+    c.turn_over.new.tables (size_of k top) (size_of k top) landed k (sym (same_control k (size_of k top) some refl)) in
+    call.0
 
-pub returns : goal.returns
-returns c =
+pub returns-clause-negates : goal.returns-clause-negates
+returns-clause-negates c =
     let t = c.args.self.now in
     let k = t.control in
     let top : ℕ = k.count - 1 in
-    let tables : List ℕ = t.tables.now in
-    let L : List ℕ → Bool = says k tables top in
-    let size : ℕ = c.from-size.result in
+    let L : List ℕ → Bool = says k t.tables.now top in
     let some : 1 ≤ k.count = c.if-control-lt1.false in
     let stands = t.live top (omega arith) in
-    let landed = negated_at k tables c.flip_marks.new.tables top c.slot_length.result size c.slot_length.ensures.is c.from-size.ensures
-    (fits_slot k tables top stands) (table_in k tables top stands) c.flip_marks.ensures in
-    record {
-      negates = (
-        ((λ l. omega arith), tt),
-        subst (λ k'. Built top (SameResidual k.sets L) (λ w. L w ≡ true → ⊥) size size k tables k' c.flip_marks.new.tables) (same_control k size some c.from-size.ensures)
-            (tray_built t top c.slot_length.result (SameResidual k.sets L) (λ w. L w ≡ true → ⊥) c.flip_marks.new.tables t.spare.now size size
-            c.slot_length.ensures.is (omega (arith, t.holds)) (omega arith) landed (not_moves k.sets L (by_sets_in k tables top stands))),
-      );
-      spare = refl;
-      owners = (refl, refl);
-    }
+    let landed = negated k t.tables.now c.turn_over.new.tables top (fits_slot k t.tables.now top stands) (table_in k t.tables.now top stands) c.turn_over.ensures in
+    let call = landed_call t top (SameResidual k.sets L) (λ w. L w ≡ true → ⊥) (omega (arith, t.holds)) (omega arith) (not_moves k.sets L (by_sets_in k t.tables.now top stands))
+    c.turn_over.new.tables (size_of k top) (size_of k top) landed k (sym (same_control k (size_of k top) some refl)) in (
+      ((λ l. omega arith), tt),
+      subst (λ s. Built top (SameResidual k.sets L) (λ w. L w ≡ true → ⊥) s s k t.tables.now k c.turn_over.new.tables) (sym c.from-size.ensures) call.1,
+    )

@@ -1,62 +1,56 @@
-use Rattle.std.proofs.Common.{ℕ, ◌+◌, ◌*◌, ◌<◌, ◌≤◌, length, set, sym, refl, subst, mul-le-mul_right, arith}
-use Rattle.words.specs.Words.{coded}
-use Rattle.words.specs.Relations.{Singleton}
-use Rattle.words.specs.Residuals.{SameResidual}
-use Rattle.words.specs.Rows.{width}
-use Rattle.tray.specs.View.{slot, says}
-use Rattle.tray.proofs.Builts.{moved, built_keeps, tray_built}
-use Rattle.tray.proofs.Checking.{within_slots}
-use Rattle.tray.proofs.Landings.{slot_fits}
-use Rattle.tray.proofs.Singles.{single_in_tray, single_moves}
+use Rattle.std.proofs.Common.{drop, ℕ, ◌<◌, ◌≤◌, [], ◌∷◌, Ok, sym, subst, arith}
+use Rattle.words.specs.Automata.{language}
+use Rattle.tray.specs.Asked.{asked, SameBookState}
+use Rattle.tray.specs.Calls.{Singles}
+use Rattle.tray.specs.View.{slot}
+use Rattle.tray.proofs.Askings.{same_asked}
+use Rattle.tray.proofs.Landings.{too_many_met}
+use Rattle.tray.proofs.Singles.{exactly, one_means, not_four, three_states, single_call}
 use Rattle.tray.proofs.tray.Tray.single.Goals as goal
 
-pub single_table-requires : goal.single_table-requires
-single_table-requires c =
+-- there is room for three states, and there are no more
+pub returns-in_err-counts-clause-singles : goal.returns-in_err-counts-clause-singles
+returns-in_err-counts-clause-singles c =
     let t = c.args.self.now in
     let k = t.control in
+    let i : ℕ = c.args.set in
+    let there : i < k.sets = c.if-set-control.false in
+    let high : k.count < k.depth = c.if-control.false in
     let enough : 3 ≤ k.budget = c.if-control-lt-STATES.false in
-    let wide : 3 * width k.sets ≤ slot k = mul-le-mul_right (width k.sets) enough in
-    record {
-      sets = t.few_sets;
-      there = c.if-set-control.false;
-      work = omega (arith, t.work);
-      slot = subst (λ s. k.count * s + 3 * width k.sets ≤ length t.tables.now) (sym c.slot_length.ensures.is)
-          (slot_fits k.sets k.budget 3 (length t.tables.now) (k.count * slot k) enough
-          (within_slots k.depth k.count (slot k) (length t.tables.now) c.if-control.false t.slots));
-    }
+    let refused = too_many_met (asked exactly (i ∷ [])) k.sets 3 (SameBookState exactly (i ∷ [])) c.in_err-counts.field-0.0
+    (λ u w _ _. same_asked exactly (i ∷ []) u w) c.in_err-counts.ensures in
+    absurd (not_four k.sets i refused.1)
 
-pub invariant_of-self-in-Ok : goal.invariant_of-self-in-Ok
-invariant_of-self-in-Ok c =
+pub invariant_of-self-2-clause-live : goal.invariant_of-self-2-clause-live
+invariant_of-self-2-clause-live c =
     let t = c.args.self.now in
     let k = t.control in
-    let size : ℕ = c.in-Ok.counts.kept in
-    let within : k.count < length k.sizes = omega (arith, t.sixteen, t.few_tables, c.if-control.false) in
-    built_keeps t k.count c.slot_length.result
-    (SameResidual k.sets (says (moved k (k.count + 1) (set k.sizes k.count size)) c.single_table.new.tables k.count)) (λ w. Singleton (coded c.args.set w))
-    c.single_table.new.tables c.single_table.new.spare c.in-Ok.counts.met size
-    c.slot_length.ensures.is c.if-control.false (omega arith)
-    (single_in_tray k c.args.set c.slot_length.result t.tables.now c.single_table.new.tables c.in-Ok.counts c.slot_length.ensures.is c.if-control-lt-STATES.false within c.in-Ok.ensures)
-    (single_moves k.sets c.args.set c.if-set-control.false) c.single_table.auto.tables c.single_table.auto.spare
+    let i : ℕ = c.args.set in
+    let there : i < k.sets = c.if-set-control.false in
+    let high : k.count < k.depth = c.if-control.false in
+    let enough : 3 ≤ k.budget = c.if-control-lt-STATES.false in
+    let found = c.in_ok-counts.ensures in
+    let three = three_states t i there high enough (language (asked exactly (i ∷ []))) (drop (slot k) c.explore.new.spare) c.land.new.tables c.in_ok-counts.counts.met c.in_ok-counts.counts.kept
+    found.0 found.1 found.3 (one_means i) c.land.ensures.copied c.land.ensures.elsewhere in
+    let call = single_call t i there high enough (language (asked exactly (i ∷ []))) (drop (slot k) c.explore.new.spare) c.land.new.tables c.in_ok-counts.counts.met c.in_ok-counts.counts.kept
+    found.0 found.1 found.3 (one_means i) c.land.ensures.copied c.land.ensures.elsewhere c.land.new.self c.land.ensures.control in
+    call.0
 
-pub returns-in-Ok : goal.returns-in-Ok
-returns-in-Ok c =
+pub returns-clause-singles : goal.returns-clause-singles
+returns-clause-singles c =
     let t = c.args.self.now in
     let k = t.control in
-    let size : ℕ = c.in-Ok.counts.kept in
-    let within : k.count < length k.sizes = omega (arith, t.sixteen, t.few_tables, c.if-control.false) in
-    record {
-      singles = (
-        c.in-Ok.ensures.0,
-        c.in-Ok.ensures.1,
-        (
-          ((λ l. omega (arith, c.if-set-control.false)), ((λ l. omega (arith, c.if-control.false)), ((λ l. omega (arith, c.if-control-lt-STATES.false)), tt))),
-          tray_built t k.count c.slot_length.result
-              (SameResidual k.sets (says (moved k (k.count + 1) (set k.sizes k.count size)) c.single_table.new.tables k.count)) (λ w. Singleton (coded c.args.set w))
-              c.single_table.new.tables c.single_table.new.spare c.in-Ok.counts.met size
-              c.slot_length.ensures.is c.if-control.false (omega arith)
-              (single_in_tray k c.args.set c.slot_length.result t.tables.now c.single_table.new.tables c.in-Ok.counts c.slot_length.ensures.is c.if-control-lt-STATES.false within c.in-Ok.ensures)
-              (single_moves k.sets c.args.set c.if-set-control.false),
-        ),
-      );
-      owners = (refl, refl);
-    }
+    let i : ℕ = c.args.set in
+    let there : i < k.sets = c.if-set-control.false in
+    let high : k.count < k.depth = c.if-control.false in
+    let enough : 3 ≤ k.budget = c.if-control-lt-STATES.false in
+    let found = c.in_ok-counts.ensures in
+    let three = three_states t i there high enough (language (asked exactly (i ∷ []))) (drop (slot k) c.explore.new.spare) c.land.new.tables c.in_ok-counts.counts.met c.in_ok-counts.counts.kept
+    found.0 found.1 found.3 (one_means i) c.land.ensures.copied c.land.ensures.elsewhere in
+    let call = single_call t i there high enough (language (asked exactly (i ∷ []))) (drop (slot k) c.explore.new.spare) c.land.new.tables c.in_ok-counts.counts.met c.in_ok-counts.counts.kept
+    found.0 found.1 found.3 (one_means i) c.land.ensures.copied c.land.ensures.elsewhere c.land.new.self c.land.ensures.control in
+    subst (λ r. Singles i k t.tables.now c.land.new.self c.land.new.tables (Ok r)) (sym c.land.ensures.counts) (
+      three.0,
+      three.1,
+      (((λ l. omega (arith, there)), ((λ l. omega (arith, high)), ((λ l. omega (arith, enough)), tt))), call.1),
+    )
