@@ -8,6 +8,7 @@ mod multiples;
 
 use crate::measure::{BUDGET, Bench, DEPTH, Setting, tell_end};
 use std::env;
+use std::rt::{Clock, Env};
 
 // Over how many sets the calls are made.
 const WIDTHS: [usize; 3] = [4, 6, 8];
@@ -15,7 +16,7 @@ const WIDTHS: [usize; 3] = [4, 6, 8];
 // Two slots for tables and two for work, each with a row for each state of the budget over the most sets.
 const TWO_SLOTS: usize = DEPTH * BUDGET * ((1 << 8) + 1);
 
-fn run(rt: &HostRuntime) -> anyhow::Result<()> {
+fn run(rt: &(impl Print + Env + Clock + AllocGlobal)) -> anyhow::Result<()> {
     let timed = env::args(rt)?.any(|word| word.as_str() == "times");
     let mut tables = vec![in rt.alloc(); 0u16; TWO_SLOTS]?;
     let mut spare = vec![in rt.alloc(); 0u16; TWO_SLOTS]?;

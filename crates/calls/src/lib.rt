@@ -32,6 +32,17 @@ mod tests {
         Ok(())
     }
 
+    #[test]
+    fn refusals_in_words(rt: HostRuntime) -> Result<(), AllocError> {
+        let hidden = Stopped::Refused(Step::Make(Call::Hide(2)), Refusal::TooManyStates);
+        let judged = Stopped::Refused(Step::Judge, Refusal::TooFewTables);
+        let hidden = format!(in rt.alloc(); "{hidden}")?;
+        let judged = format!(in rt.alloc(); "{judged}")?;
+        assert_eq!(rt; hidden.as_str(), "hide 2: refused, check 23");
+        assert_eq!(rt; judged.as_str(), "judge: refused, check 22");
+        Ok(())
+    }
+
     // A sum for any two numbers, on a tray for 3 sets: three states are met, and one is left.
     #[test]
     fn a_sum_hidden(rt: HostRuntime) -> Result<(), Refusal> {

@@ -91,9 +91,7 @@ fn columns_in(alloc: Global, text: &str) -> Result<Vec<u8>, Unread>
     if text == "." {
         return Ok(Vec::new(alloc));
     }
-    text.split(',')
-        .map(|part| column_in(part))
-        .try_collect(alloc)
+    text.split(',').map(column_in).try_collect(alloc)
 }
 
 // The column that a part is.

@@ -138,10 +138,9 @@ mod tests {
     fn all_built(tray: &mut Tray, board: Board, count: usize) -> Result<(), Refusal> {
         let mut work: Work<BUDGET> = Work::new();
         tray.open(SETS, BUDGET, DEPTH)?;
-        for claim in board.claims().iter().take(count) {
-            for call in claim.calls() {
-                make(tray, &mut work, *call)?;
-            }
+        let claims = board.claims().iter().take(count);
+        for call in claims.flat_map(|claim| claim.calls()) {
+            make(tray, &mut work, *call)?;
         }
         Ok(())
     }
