@@ -1,6 +1,6 @@
 -- A walk from a state of a table back to the start, one last column at a time: first for the length of the state's first
 -- word, and then to write it down.
-use Rattle.std.proofs.Common.{◌≡◌, ℕ, zero, suc, ◌+◌, ◌-◌, ◌^◌, ◌<◌, ◌≤◌, Bool, List, [], ◌∷◌, ◌++◌, length, take, drop, set, Some, None, Option, inl, inr, sym, refl, ap, ◌∙◌, subst, arith}
+use Rattle.std.proofs.Common.{◌≡◌, ℕ, zero, suc, ◌+◌, ◌-◌, ◌^◌, ◌<◌, ◌≤◌, Bool, List, [], ◌∷◌, ◌++◌, length, take, drop, set, Some, None, Option, inl, inr, sym, ap, ◌∙◌, subst, arith}
 use Rattle.std.proofs.lemmas.Grind.{common_steps}
 use Rattle.std.proofs.lemmas.List.{length_push, length-append, length-take-le, length-drop, drop-set, drop-set-lt, nil_from_length}
 use Rattle.std.specs.Iterator.{Yields}
@@ -129,20 +129,3 @@ module _ (rows : Rows) (state count : ℕ) (before : List ℕ) where
             ] in
             let done : k ≡ 0 = omega (arith, none, parts, writing.within) in
             grind (arith, common_steps, writing.spelled L t h is, nil_from_length (t.first (links turns).at) none)
-
-module _ (rows : Rows) (state count : ℕ) (buffer : List ℕ) (turns : Turns) (range : Rev (Range ℕ)) (start : Links)
-    (first : zip_first turns ≡ range) (countdown : rev_source range ≡ record { start = 0; end = count }) (second : zip_second turns ≡ start)
-  where
-    pub writing_start : start.rows.now ≡ rows → start.at ≡ state → Writing rows state count buffer buffer turns
-    writing_start over at =
-        let bounds : places turns ≡ record { start = 0; end = count } = ap rev_source first ∙ countdown in
-        let end : (places turns).end ≡ count = ap (λ (r : Range ℕ). r.end) bounds in
-        let here : (links turns).at ≡ state = ap (λ (l : Links). l.at) second ∙ at in
-        record {
-          from = ap (λ (r : Range ℕ). r.start) bounds;
-          within = omega (arith, end);
-          over = ap (λ (l : Links). l.rows.now) second ∙ over;
-          low = omega (arith, here);
-          behind = refl;
-          spelled = λ L t h is. grind (arith, common_steps);
-        }
