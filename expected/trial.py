@@ -2,7 +2,8 @@
 
     python3 expected/trial.py < crates/trial/stdin > crates/trial/stdout
 
-It knows the claims and the sentences, and calculates with numbers and textbook automata.
+It knows the claims, the sentences and how the text of a table is laid out, and calculates with numbers and textbook
+automata.
 """
 
 import sys
@@ -14,25 +15,22 @@ LABELS = {
     "counter": ("Batch counter", "count", "one more", "board's next count", "true next count"),
 }
 SECOND_IS_ONE = ["suc 3 1", "hide 3", "negate", "single 1", "both"]
+COUNTS_ON = SECOND_IS_ONE + ["negate", "sum 0 1 2", "either"]
 
 # Each claim: what it says, how it is built, and whether it holds of the three numbers.
 CLAIMS = {
     "adder": [
+        ("the inputs have a sum", ["sum 0 1 2", "hide 2"], lambda a, b, c: True),
         ("the board's output is the sum of its inputs", ["sum 0 1 2"], lambda a, b, c: a + b == c),
-        ("the inputs have a sum", ["hide 2"], lambda a, b, c: True),
     ],
     "counter": [
-        (
-            "if the second number is 1, the next count is the sum",
-            SECOND_IS_ONE + ["negate", "sum 0 1 2", "either"],
-            lambda a, b, c: b != 1 or a + b == c,
-        ),
-        ("every count has a next count", ["hide 2"], lambda a, b, c: True),
+        ("every count has a next count", COUNTS_ON + ["hide 2"], lambda a, b, c: True),
         (
             "a counter that sticks is right: the second number is 1, and the next count is both the count and the sum",
             SECOND_IS_ONE + ["sub 0 2", "both", "sub 2 0", "both", "sum 0 1 2", "both"],
             lambda a, b, c: b == 1 and a == c and a + b == c,
         ),
+        ("if the second number is 1, the next count is the sum", COUNTS_ON, lambda a, b, c: b != 1 or a + b == c),
     ],
 }
 
@@ -96,19 +94,32 @@ def verdict(board, table):
     else:
         which = "Some sets meet the claim and some do not"
     yield f"{which}: its table has {states} {'state' if states == 1 else 'states'}."
-    if failing is None:
-        yield "No word fails it."
-    elif not failing:
-        yield "The shortest word that fails it is empty: each number is 0."
+    yield from drawn(board, "meets", witness)
+    yield from drawn(board, "fails", failing)
+
+
+def drawn(board, does, word):
+    """The shortest word that meets or fails a claim."""
+    if word is None:
+        yield f"No word {does} it."
+    elif not word:
+        yield f"The shortest word that {does} it is empty: each number is 0."
     else:
-        yield f"The shortest word that fails it has length {len(failing)}, position 0 leftmost:"
-        yield from rows(board, failing)
+        yield f"The shortest word that {does} it has length {len(word)}, position 0 leftmost:"
+        yield from rows(board, word)
+
+
+def saved(table):
+    """The text of a table: names, and then each state with its mark and its next states."""
+    yield "  " + " ".join(["state", "accepts"] + [f"n{column}" for column in range(COLUMNS)])
+    for state, (following, accepts) in enumerate(zip(*table)):
+        yield "  " + " ".join(str(field) for field in [state, int(accepts)] + following)
 
 
 def claims(board, last):
-    tray = []
     for says, calls, holds in CLAIMS[board]:
         yield f"{LABELS[board][0]}, a claim: {says}"
+        tray = []
         for words in calls:
             yield call(tray, words)
         yield from verdict(board, tray[-1])
@@ -117,6 +128,8 @@ def claims(board, last):
         else:
             yield f"The last recorded word, of length {len(last)}, fails it too:"
             yield from rows(board, last)
+    yield "The table after these calls:"
+    yield from saved(tray[-1])
 
 
 def account(lines):

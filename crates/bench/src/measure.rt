@@ -1,17 +1,21 @@
 //! Making the calls, and telling the counts of each and, where it is asked for, its time.
 use crate::chain;
 use crate::multiples::GROWTH;
-use calls::{Call, Step, Stopped, Work, make};
+use books::Standard;
+use calls::{Call, Output, Reply, Work, make};
 use std::io;
 use std::rt::Clock;
 use std::time::{Duration, Instant};
-use tray::Tray;
+use tray::{Refusal, Tray};
 
 /// How many states one call may meet: as many as a tray can have.
 pub const BUDGET: usize = 512;
 
 /// How many tables the tray holds at most.
 pub const DEPTH: usize = 2;
+
+// What is made after a part: the claim on top is judged.
+const JUDGED: [Call; 1] = [Call::Judge];
 
 /// How many sets the claims are over, and whether times are told.
 #[derive(Clone, Copy)]
@@ -27,11 +31,26 @@ enum Telling {
     Made,
 }
 
-/// A tray on which calls are measured, and the memory that they work in.
+/// Why a run of calls ends early: a tray's call of this name was refused, or a line could not be written or the clock not
+/// be read.
+#[derive(Debug, Drop)]
+pub enum Stopped {
+    Refused(&'static str, Refusal),
+    Failed(io::Error),
+}
+
+impl From<io::Error> for Stopped {
+    fn from(error: io::Error) -> Stopped {
+        Stopped::Failed(error)
+    }
+}
+
+/// A tray on which calls are measured, and the memory that is lent to them. No table is saved.
 #[derive(Drop)]
 pub struct Bench<'m, 's> {
     tray: Tray<'m, 's>,
     work: Work<BUDGET>,
+    output: Output<BUDGET, 0>,
     setting: Setting,
 }
 
@@ -40,6 +59,7 @@ impl<'m, 's> Bench<'m, 's> {
         Bench {
             tray: Tray::over(tables, spare),
             work: Work::new(),
+            output: Output::new(),
             setting,
         }
     }
@@ -49,7 +69,7 @@ impl<'m, 's> Bench<'m, 's> {
         self.open()?;
         for calls in GROWTH {
             self.make(rt, calls, Telling::Told)?;
-            self.judge(rt)?;
+            self.make(rt, &JUDGED, Telling::Told)?;
         }
         Ok(())
     }
@@ -61,19 +81,19 @@ impl<'m, 's> Bench<'m, 's> {
         for k in 1..=chain::LENGTHENED {
             if k % chain::TOLD_EACH == 0 {
                 self.make(rt, &chain::TWO_FURTHER, Telling::Told)?;
-                self.judge(rt)?;
+                self.make(rt, &JUDGED, Telling::Told)?;
             } else {
                 self.make(rt, &chain::TWO_FURTHER, Telling::Made)?;
             }
         }
         self.make(rt, &chain::OR_WITHIN, Telling::Told)?;
-        self.judge(rt)
+        self.make(rt, &JUDGED, Telling::Told)
     }
 
     fn open(&mut self) -> Result<(), Stopped> {
         self.tray
             .open(self.setting.sets, BUDGET, DEPTH)
-            .map_err(|why| Stopped::Refused(Step::Open, why))
+            .map_err(|why| Stopped::Refused("open", why))
     }
 
     // Makes the calls one by one.
@@ -86,40 +106,43 @@ impl<'m, 's> Bench<'m, 's> {
         let Bench {
             tray,
             work,
+            output,
             setting,
         } = self;
         for call in calls {
             let start = Instant::now(rt)?;
-            let counts = make(tray, work, *call);
+            let reply = make(&Standard, tray, work, output, *call);
             let time = start.elapsed(rt)?;
-            let (met, kept) = counts.map_err(|why| Stopped::Refused(Step::Make(*call), why))?;
+            if let Reply::Refused(why) = reply {
+                return Err(Stopped::Refused(call.name(), why));
+            }
             if telling == Telling::Told {
-                let name = call.name();
-                let sets = setting.sets;
-                print!(rt; "{name:<6} {sets} sets {met:>4} met {kept:>4} states")?;
+                setting.tell_counts(rt, call.name(), reply)?;
                 setting.tell_time(rt, time)?;
             }
         }
         Ok(())
     }
-
-    fn judge(&self, rt: &(impl Print + Clock)) -> Result<(), Stopped> {
-        let mut meeting = [0u8; BUDGET];
-        let mut failing = [0u8; BUDGET];
-        let start = Instant::now(rt)?;
-        let judged = self.tray.judge(&mut meeting, &mut failing);
-        let time = start.elapsed(rt)?;
-        let states = judged
-            .map_err(|why| Stopped::Refused(Step::Judge, why))?
-            .states;
-        let sets = self.setting.sets;
-        print!(rt; "judge  {sets} sets          {states:>4} states")?;
-        self.setting.tell_time(rt, time)?;
-        Ok(())
-    }
 }
 
 impl Setting {
+    // A call and the counts in its reply, without an end of the line. The lists have no calls that are replied otherwise.
+    fn tell_counts(self, rt: &impl Print, name: &str, reply: Reply) -> io::Result<()> {
+        let sets = self.sets;
+        match reply {
+            Reply::Built { met, kept } => print!(rt;
+                "{name:<6} {sets} sets {met:>4} met {kept:>4} states"
+            ),
+            Reply::Judged(judgement) => print!(rt;
+                "{name:<6} {sets} sets          {:>4} states",
+                judgement.states
+            ),
+            Reply::Refused(_) | Reply::Dropped | Reply::Saved(_) => print!(rt;
+                "{name:<6} {sets} sets"
+            ),
+        }
+    }
+
     // Ends a line, with the time in milliseconds where it is asked for.
     fn tell_time(self, rt: &impl Print, time: Duration) -> io::Result<()> {
         if !self.timed {
@@ -130,14 +153,10 @@ impl Setting {
     }
 }
 
-/// Ends a run of calls: a step that was refused is told, and what the system failed to do is an error.
+/// Ends a run of calls: a call that was refused is told, and what the system failed to do is an error.
 pub fn tell_end(rt: &impl Print, end: Result<(), Stopped>) -> io::Result<()> {
     match end {
-        Err(Stopped::Refused(step, why)) => println!(rt;
-            "{}: refused, check {}",
-            step.name(),
-            why.number()
-        ),
+        Err(Stopped::Refused(name, why)) => println!(rt; "{name}: refused, check {}", why.number()),
         Err(Stopped::Failed(error)) => Err(error),
         Ok(()) => Ok(()),
     }

@@ -1,52 +1,98 @@
-//! A building call.
+//! Calls of a tray as values, and what is replied to them.
 ghost use Rattle.std.specs.Prelude.{◌≡◌};
 ghost use Rattle.calls.specs.Names.{name_of};
+ghost use Rattle.calls.specs.Replies.{built, dropped, saved, judged};
 
-use std::fmt;
+use books::Predicate;
+use judging::Judgement;
+use tray::Refusal;
 
-/// A predicate of the standard book on sets of a claim, or a call of the same name on the tables of a tray.
-#[derive(Clone, Copy, PartialEq, Eq, Debug)]
-pub enum Call {
-    Sub(u8, u8),
-    Suc(u8, u8),
-    Sum(u8, u8, u8),
+/// A call of a tray. The sets of `Place` are listed in the order of the predicate's places.
+#[derive(Clone, Copy)]
+pub enum Call<'l> {
+    Place(Predicate, &'l [u8]),
     Single(u8),
     Negate,
     Both,
     Either,
     Hide(u8),
+    Drop,
+    Save,
+    Judge,
 }
 
-impl Call {
+impl Call<'_> {
     /// The name of the tray's call.
     pub fn name(&self) -> &'static str
         ensures { result.now ≡ name_of self.now }
     {
         match self {
-            Call::Sub(..) | Call::Suc(..) | Call::Sum(..) => "place",
+            Call::Place(..) => "place",
             Call::Single(_) => "single",
             Call::Negate => "negate",
             Call::Both => "both",
             Call::Either => "either",
             Call::Hide(_) => "hide",
+            Call::Drop => "drop",
+            Call::Save => "save",
+            Call::Judge => "judge",
         }
     }
 }
 
-impl fmt::Display for Call {
-    ghost use Rattle.std.specs.Prelude.{Some};
-    ghost use Rattle.calls.specs.Names.{call_text};
+/// What is replied to a call.
+#[derive(Clone, Copy, PartialEq, Eq, Debug)]
+pub enum Reply {
+    /// The first check that failed. Nothing changed.
+    Refused(Refusal),
+    /// A building call: how many states were met, and how many were kept.
+    Built { met: usize, kept: usize },
+    Dropped,
+    /// How many bytes were written.
+    Saved(usize),
+    Judged(Judgement),
+}
 
-    ghost output = { λ call. Some (call_text call) };
+impl From<Result<(usize, usize), Refusal>> for Reply {
+    ghost from_gives = { λ answer reply. reply ≡ built answer };
 
-    fn fmt<W: fmt::Write>(&self, f: &mut fmt::Formatter<W>) -> fmt::Result {
-        let name = self.name();
-        match self {
-            Call::Sub(a, b) => write!(f, "{name} sub on {a},{b}"),
-            Call::Suc(a, b) => write!(f, "{name} suc on {a},{b}"),
-            Call::Sum(a, b, c) => write!(f, "{name} sum on {a},{b},{c}"),
-            Call::Single(set) | Call::Hide(set) => write!(f, "{name} {set}"),
-            Call::Negate | Call::Both | Call::Either => write!(f, "{name}"),
+    fn from(answer: Result<(usize, usize), Refusal>) -> Reply {
+        match answer {
+            Ok((met, kept)) => Reply::Built { met, kept },
+            Err(why) => Reply::Refused(why),
+        }
+    }
+}
+
+impl From<Result<(), Refusal>> for Reply {
+    ghost from_gives = { λ answer reply. reply ≡ dropped answer };
+
+    fn from(answer: Result<(), Refusal>) -> Reply {
+        match answer {
+            Ok(()) => Reply::Dropped,
+            Err(why) => Reply::Refused(why),
+        }
+    }
+}
+
+impl From<Result<usize, Refusal>> for Reply {
+    ghost from_gives = { λ answer reply. reply ≡ saved answer };
+
+    fn from(answer: Result<usize, Refusal>) -> Reply {
+        match answer {
+            Ok(bytes) => Reply::Saved(bytes),
+            Err(why) => Reply::Refused(why),
+        }
+    }
+}
+
+impl From<Result<Judgement, Refusal>> for Reply {
+    ghost from_gives = { λ answer reply. reply ≡ judged answer };
+
+    fn from(answer: Result<Judgement, Refusal>) -> Reply {
+        match answer {
+            Ok(judgement) => Reply::Judged(judgement),
+            Err(why) => Reply::Refused(why),
         }
     }
 }

@@ -9,12 +9,15 @@ use Rattle.saving.specs.declared.unsaved.Unsaved.TheVariants.{TooManySets, NoBuf
 abbrev pub rows_text : Rows → List ℕ
 rows_text rows = table_text rows.places rows.states rows.cells.now
 
+-- a text of k bytes stands at the front of the buffer now, and the bytes behind it are as they were
+abbrev pub IsWritten : List ℕ → List ℕ → List ℕ → ℕ → Type 0
+IsWritten text buffer buffer' k = (k ≡ length text) × (length buffer' ≡ length buffer) × (take k buffer' ≡ text) × (drop k buffer' ≡ drop k buffer)
+
 -- The answer of `save_rows`. The length of the text, which stands at the front of the buffer now, and the bytes behind it are as
 -- they were. Or a refusal, and the buffer is as it was: there are more than four sets, or else the text is longer than the buffer.
 abbrev pub Saved : Rows → List ℕ → List ℕ → Result ℕ Unsaved → Type 0
 Saved rows buffer buffer' (Ok k) =
-    (rows.places ≤ 4) × (k ≡ length (rows_text rows)) × (length buffer' ≡ length buffer)
-    × (take k buffer' ≡ rows_text rows) × (drop k buffer' ≡ drop k buffer)
+    (rows.places ≤ 4) × IsWritten (rows_text rows) buffer buffer' k
 Saved rows buffer buffer' (Err TooManySets) = (4 < rows.places) × (buffer' ≡ buffer)
 Saved rows buffer buffer' (Err NoBuffer) = (rows.places ≤ 4) × (length buffer < length (rows_text rows)) × (buffer' ≡ buffer)
 

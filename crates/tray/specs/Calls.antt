@@ -8,13 +8,15 @@ use Rattle.words.specs.Hiding.{Hides, SameCollection}
 use Rattle.tables.specs.declared.pairs.Join.{Join}
 use Rattle.judging.specs.Judged.{Judged}
 use Rattle.judging.specs.declared.verdict.Judgement.{Judgement}
+use Rattle.saving.specs.Saved.{IsWritten}
+use Rattle.saving.specs.TableText.{table_text}
 use Rattle.tray.specs.declared.control.Control.{Control}
 use Rattle.tray.specs.declared.refusal.Refusal.{Refusal}
 use Rattle.tray.specs.Asked.{SameBookState}
 use Rattle.tray.specs.Joined.{Joins}
 use Rattle.tray.specs.Refusals.{number_of}
 use Rattle.tray.specs.Checks.{FirstFailed, AllPass}
-use Rattle.tray.specs.View.{says}
+use Rattle.tray.specs.View.{size_of, rows_of, says}
 use Rattle.tray.specs.Building.{SameSettings, SameTables, Builds}
 
 -- too few records or links are lent for an exploration
@@ -61,6 +63,10 @@ top_checks count = fewer_than 1 count ∷ []
 abbrev pub judge_checks : ℕ → ℕ → ℕ → ℕ → List (ℕ × Type 0)
 judge_checks budget count witness counterexample = (8, (witness < budget) ⊎ (counterexample < budget)) ∷ fewer_than 1 count ∷ []
 
+-- save: an output buffer of so many bytes for a text of so many
+abbrev pub save_checks : ℕ → ℕ → ℕ → ℕ → List (ℕ × Type 0)
+save_checks n count buffer text = (20, 4 < n) ∷ fewer_than 1 count ∷ (8, buffer < text) ∷ []
+
 -- ---- what each call answers
 
 -- Place: predicate p, with automaton a, means `holds`. Met counts the book states that words lead to, read through the
@@ -105,6 +111,16 @@ JudgesTop c tables met missed met' missed' (Ok j) =
     AllPass (judge_checks c.budget c.count (length met) (length missed)) × Judged c.sets (says c tables (c.count - 1)) met missed met' missed' j
 JudgesTop c tables met missed met' missed' (Err r) =
     FirstFailed (judge_checks c.budget c.count (length met) (length missed)) (number_of r) × (met' ≡ met) × (missed' ≡ missed)
+
+-- Save: the text of the top table stands at the front of the buffer, and the bytes behind it are as they were.
+abbrev pub top_text : Control → List ℕ → List ℕ
+top_text c tables = table_text c.sets (size_of c (c.count - 1)) (rows_of c tables (c.count - 1))
+
+abbrev pub SavesTop : Control → List ℕ → List ℕ → List ℕ → Result ℕ Refusal → Type 0
+SavesTop c tables buffer buffer' (Ok k) =
+    AllPass (save_checks c.sets c.count (length buffer) (length (top_text c tables))) × IsWritten (top_text c tables) buffer buffer' k
+SavesTop c tables buffer buffer' (Err r) =
+    FirstFailed (save_checks c.sets c.count (length buffer) (length (top_text c tables))) (number_of r) × (buffer' ≡ buffer)
 
 -- Hide: some finite set in place of set i makes the top true. Met counts the collections of residuals of the top, each
 -- taken over the words that are equal but for bit i.

@@ -1,4 +1,4 @@
-//! The tray of tables: the calls that build tables for formulas, and the call that judges one.
+//! The tray of tables: the calls that build tables for formulas, and those that judge one and save it.
 #![tactic(auto)]
 
 mod asked;
@@ -10,6 +10,7 @@ mod laws;
 mod opening;
 mod place;
 mod refusal;
+mod save;
 mod single;
 mod top;
 mod tray;

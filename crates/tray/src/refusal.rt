@@ -1,7 +1,8 @@
 //! Why a call is refused.
 ghost use Rattle.std.specs.Prelude.{◌≡◌};
-ghost use Rattle.tray.specs.Refusals.{number_of, refusal_of};
+ghost use Rattle.tray.specs.Refusals.{number_of, refusal_of, unsaved_of};
 
+use saving::Unsaved;
 use std::error::Error;
 use std::fmt;
 use tables::Unexplored;
@@ -25,6 +26,8 @@ pub enum Refusal {
     NoSet = 7,
     /// An output buffer is too short.
     NoBuffer = 8,
+    /// A table over more than four sets is not saved.
+    TooManySets = 20,
     /// The tray holds as many tables as its depth.
     Full = 21,
     /// The tray holds too few tables.
@@ -58,6 +61,7 @@ impl fmt::Display for Refusal {
             Refusal::WrongPlaces => "the number of sets differs from the predicate's places",
             Refusal::NoSet => "a set is not below the number of sets",
             Refusal::NoBuffer => "an output buffer is too short",
+            Refusal::TooManySets => "a table over more than four sets is not saved",
             Refusal::Full => "the tray holds as many tables as its depth",
             Refusal::TooFewTables => "the tray holds too few tables",
             Refusal::TooManyStates => "more states are met than the budget",
@@ -75,6 +79,18 @@ impl From<Unexplored> for Refusal {
         match why {
             Unexplored::NoRoom => Refusal::NoMemory,
             Unexplored::TooMany => Refusal::TooManyStates,
+        }
+    }
+}
+
+/// What stopped a save is the call's refusal.
+impl From<Unsaved> for Refusal {
+    ghost from_gives = { λ why r. r ≡ unsaved_of why };
+
+    fn from(why: Unsaved) -> Refusal {
+        match why {
+            Unsaved::TooManySets => Refusal::TooManySets,
+            Unsaved::NoBuffer => Refusal::NoBuffer,
         }
     }
 }

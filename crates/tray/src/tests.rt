@@ -74,6 +74,13 @@ fn dropped(tray: &mut Tray) -> Result<(), Refusal> {
     tray.drop()
 }
 
+// What a save answers, and its buffer, which was filled with 9 before.
+fn saved(tray: &Tray) -> (Result<usize, Refusal>, [u8; 45]) {
+    let mut text = [9; 45];
+    let answer = tray.save(&mut text);
+    (answer, text)
+}
+
 #[test]
 fn sub_and_its_negation(rt: HostRuntime) {
     let mut tables = [0; 180];
@@ -184,6 +191,42 @@ fn budget(rt: HostRuntime) {
     assert!(rt; counterexample == [9; 9]);
 }
 
+// The text of a table of three states has 44 bytes: the byte behind it stays, and a buffer of 43 is too short. Saving
+// changes no table.
+#[test]
+fn save(rt: HostRuntime) {
+    let mut tables = [0; 54];
+    let mut spare = [0; 54];
+    let mut tray = Tray::over(&mut tables, &mut spare);
+    assert_eq!(rt; opened(&mut tray, 1, 9, 2), Ok(()));
+    let (answer, _) = saved(&tray);
+    assert_eq!(rt; answer, Err(Refusal::TooFewTables));
+    assert_eq!(rt; placed(&mut tray, Standard::EMP, &[0]), Ok((2, 2)));
+    assert_eq!(rt; singled(&mut tray, 0), Ok((3, 3)));
+    let (answer, text) = saved(&tray);
+    assert_eq!(rt; answer, Ok(44));
+    assert!(rt; text == *b"state accepts n0 n1\n0 0 0 1\n1 1 1 2\n2 0 2 2\n\t");
+    let mut short = [9; 43];
+    assert_eq!(rt; tray.save(&mut short), Err(Refusal::NoBuffer));
+    assert!(rt; short == [9; 43]);
+    assert_eq!(rt; both(&mut tray), Ok((3, 1)));
+}
+
+// A table over five sets is not saved, and that is said before anything else.
+#[test]
+fn save_over_five_sets(rt: HostRuntime) {
+    let mut tables = [0; 297];
+    let mut spare = [0; 594];
+    let mut tray = Tray::over(&mut tables, &mut spare);
+    assert_eq!(rt; opened(&mut tray, 5, 9, 1), Ok(()));
+    let (answer, _) = saved(&tray);
+    assert_eq!(rt; answer, Err(Refusal::TooManySets));
+    assert_eq!(rt; singled(&mut tray, 4), Ok((3, 3)));
+    let (answer, text) = saved(&tray);
+    assert_eq!(rt; answer, Err(Refusal::TooManySets));
+    assert!(rt; text == [9; 45]);
+}
+
 #[test]
 fn open_is_refused(rt: HostRuntime) {
     // One memory for one table of one set and three states, and two slots beside it: 3 * 3 * 3 numbers.
@@ -219,6 +262,7 @@ fn never_opened(rt: HostRuntime) {
     assert_eq!(rt; both(&mut tray), Err(Refusal::TooFewTables));
     assert_eq!(rt; hidden(&mut tray, 0), Err(Refusal::NoSet));
     assert_eq!(rt; tray.judge(&mut [], &mut []), Err(Refusal::TooFewTables));
+    assert_eq!(rt; tray.save(&mut []), Err(Refusal::TooFewTables));
 }
 
 // One table at most.

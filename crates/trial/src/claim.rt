@@ -6,13 +6,14 @@ ghost use Rattle.trial.specs.Examined.{Found};
 
 use crate::finding::Finding;
 use crate::recording::Board;
+use books::Standard;
 use calls::Call;
 use std::fmt;
 
 /// How many sets a claim is built over.
 pub const SETS: usize = 4;
 
-/// A claim on a board. Those of one board are built in their order.
+/// A claim on a board.
 #[derive(Clone, Copy, PartialEq, Eq, Debug)]
 pub enum Claim {
     /// The third number is the sum of the two others.
@@ -27,43 +28,43 @@ pub enum Claim {
     Sticks,
 }
 
-const OF_ADDER: [Claim; 2] = [Claim::Adds, Claim::HasSum];
+const OF_ADDER: [Claim; 2] = [Claim::HasSum, Claim::Adds];
 
-const OF_COUNTER: [Claim; 3] = [Claim::CountsOn, Claim::HasNext, Claim::Sticks];
+const OF_COUNTER: [Claim; 3] = [Claim::HasNext, Claim::Sticks, Claim::CountsOn];
 
-const ADDS: [Call; 1] = [Call::Sum(0, 1, 2)];
+// The sum, and then the output hidden. The first call alone says that the output is the sum.
+static HAS_SUM: [Call; 2] = [Call::Place(Standard::SUM, &[0, 1, 2]), Call::Hide(2)];
 
-// On the claim that stands on top.
-const HIDE_OUTPUT: [Call; 1] = [Call::Hide(2)];
-
-// Set 1 is the number 1, which is the set {0}: it has one member, which no position comes before.
-const COUNTS_ON: [Call; 8] = [
-    Call::Suc(3, 1),
+// Set 1 is the number 1, which is the set {0}: it has one member, which no position comes before. The last call hides the
+// output of the claim that the others build.
+static HAS_NEXT: [Call; 9] = [
+    Call::Place(Standard::SUC, &[3, 1]),
     Call::Hide(3),
     Call::Negate,
     Call::Single(1),
     Call::Both,
     Call::Negate,
-    Call::Sum(0, 1, 2),
+    Call::Place(Standard::SUM, &[0, 1, 2]),
     Call::Either,
+    Call::Hide(2),
 ];
 
-const STICKS: [Call; 11] = [
-    Call::Suc(3, 1),
+static STICKS: [Call; 11] = [
+    Call::Place(Standard::SUC, &[3, 1]),
     Call::Hide(3),
     Call::Negate,
     Call::Single(1),
     Call::Both,
-    Call::Sub(0, 2),
+    Call::Place(Standard::SUB, &[0, 2]),
     Call::Both,
-    Call::Sub(2, 0),
+    Call::Place(Standard::SUB, &[2, 0]),
     Call::Both,
-    Call::Sum(0, 1, 2),
+    Call::Place(Standard::SUM, &[0, 1, 2]),
     Call::Both,
 ];
 
 impl Board {
-    /// The claims on the board, in the order in which they are built.
+    /// The claims on the board, in the order in which they are told.
     pub fn claims(self) -> &'static [Claim] {
         match self {
             Board::Adder => &OF_ADDER,
@@ -73,12 +74,13 @@ impl Board {
 }
 
 impl Claim {
-    /// The calls that build the claim, which go on from the claim before it where they only hide its output.
-    pub fn calls(self) -> &'static [Call] {
+    /// The calls that build the claim on an empty tray.
+    pub fn calls(self) -> &'static [Call<'static>] {
         match self {
-            Claim::Adds => &ADDS,
-            Claim::CountsOn => &COUNTS_ON,
-            Claim::HasSum | Claim::HasNext => &HIDE_OUTPUT,
+            Claim::Adds => &HAS_SUM[..1],
+            Claim::HasSum => &HAS_SUM,
+            Claim::CountsOn => &HAS_NEXT[..8],
+            Claim::HasNext => &HAS_NEXT,
             Claim::Sticks => &STICKS,
         }
     }

@@ -5,9 +5,11 @@ mod account;
 mod claim;
 mod finding;
 mod labels;
+mod log;
 mod past;
 mod recording;
 mod trying;
+mod verdict;
 
 use crate::past::Past;
 

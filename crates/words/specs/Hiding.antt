@@ -29,10 +29,17 @@ OnlyBit i (c ∷ v) = AgreeBut i c 0 × OnlyBit i v
 abbrev pub Hides : ℕ → ℕ → (List ℕ → Bool) → List ℕ → Type 0
 Hides n i L w = (u : List ℕ) × Columns n u × ((j : ℕ) → j < n → (j ≢ i) → coded j u ≡ coded j w) × (L u ≡ true)
 
--- each residual of a word that is equal to u but for bit i is the residual of a word that is equal to w but for bit i
-abbrev pub Collects : ℕ → ℕ → (List ℕ → Bool) → List ℕ → List ℕ → Type 0
-Collects n i L u w = (x : List ℕ) → Columns n x → EqualBut i x u → (y : List ℕ) × Columns n y × EqualBut i y w × SameResidual n L x y
+-- each word that is equal to u but for bit i is the same as a word that is equal to w but for bit i
+abbrev pub CollectsBy : ℕ → ℕ → (List ℕ → List ℕ → Type 0) → List ℕ → List ℕ → Type 0
+CollectsBy n i Same u w = (x : List ℕ) → Columns n x → EqualBut i x u → (y : List ℕ) × Columns n y × EqualBut i y w × Same x y
+
+-- the words that are equal to u but for bit i, and those that are equal to w but for bit i, are the same up to a sameness
+abbrev pub SameBut : ℕ → ℕ → (List ℕ → List ℕ → Type 0) → List ℕ → List ℕ → Type 0
+SameBut n i Same u w = CollectsBy n i Same u w × CollectsBy n i Same w u
 
 -- u and w have the same collection of residuals, taken over all words that are equal to them but for bit i
+abbrev pub Collects : ℕ → ℕ → (List ℕ → Bool) → List ℕ → List ℕ → Type 0
+Collects n i L = CollectsBy n i (SameResidual n L)
+
 abbrev pub SameCollection : ℕ → ℕ → (List ℕ → Bool) → List ℕ → List ℕ → Type 0
-SameCollection n i L u w = Collects n i L u w × Collects n i L w u
+SameCollection n i L = SameBut n i (SameResidual n L)

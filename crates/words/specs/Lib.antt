@@ -12,3 +12,4 @@ pub mod Laws
 pub mod TableLaws
 pub mod Formulas
 pub mod Hiding
+pub mod Meanings

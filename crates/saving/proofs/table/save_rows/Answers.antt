@@ -15,4 +15,4 @@ returns c =
     let text = rows_text c.args.rows.now in
     let room : length text ≤ length c.args.buffer.now = omega (arith, whole_end text _ _ _ c.lay_table.ensures) in
     let fits = whole_fits text _ _ _ c.lay_table-2.ensures (omega arith) room in
-    (omega arith, fits.0, fits.1, fits.2, fits.3)
+    (omega arith, fits)

@@ -1,0 +1,17 @@
+pub mod Sameness
+pub mod Failing
+pub mod OneWord
+pub mod OneText
+pub mod OneVerdict
+pub mod OnePile
+pub mod OneReply
+pub mod SingleCount
+pub mod RunLaws
+pub mod Meaning
+pub mod Checking
+pub mod Exceeding
+pub mod Standing
+pub mod Stepping
+pub mod EachCall
+pub mod Showing
+pub mod Feeding

@@ -1,0 +1,54 @@
+//! The memory that is lent to calls.
+ghost use Rattle.std.specs.Prelude.{◌≡◌, replicate};
+ghost use Rattle.hiding.specs.StateSets.{no_states};
+
+use hiding::StateSet;
+
+/// Work memory for a budget of so many states: a record of each kind and eight links for each of them.
+#[derive(Drop)]
+pub struct Work<const STATES: usize> {
+    pub(crate) states: [u16; STATES],
+    pub(crate) pairs: [(u16, u16); STATES],
+    pub(crate) sets: [StateSet; STATES],
+    pub(crate) links: [[u16; 8]; STATES],
+}
+
+impl<const STATES: usize> Work<STATES> {
+    /// Memory in which every number is 0 and every set is empty.
+    pub fn new() -> Work<STATES>
+        ensures states { result.states ≡ replicate STATES 0 }
+        ensures pairs { result.pairs ≡ replicate STATES (0, 0) }
+        ensures sets { result.sets ≡ replicate STATES no_states }
+        ensures links { result.links ≡ replicate STATES (replicate 8 0) }
+    {
+        Work {
+            states: [0; STATES],
+            pairs: [(0, 0); STATES],
+            sets: [StateSet::empty(); STATES],
+            links: [[0; 8]; STATES],
+        }
+    }
+}
+
+/// Buffers for what judge and save write: two for words, of a byte for each column, and one for the text of a table.
+#[derive(Drop)]
+pub struct Output<const COLUMNS: usize, const BYTES: usize> {
+    pub witness: [u8; COLUMNS],
+    pub counterexample: [u8; COLUMNS],
+    pub text: [u8; BYTES],
+}
+
+impl<const COLUMNS: usize, const BYTES: usize> Output<COLUMNS, BYTES> {
+    /// Buffers in which every byte is 0.
+    pub fn new() -> Output<COLUMNS, BYTES>
+        ensures witness { result.witness ≡ replicate COLUMNS 0 }
+        ensures counterexample { result.counterexample ≡ replicate COLUMNS 0 }
+        ensures text { result.text ≡ replicate BYTES 0 }
+    {
+        Output {
+            witness: [0; COLUMNS],
+            counterexample: [0; COLUMNS],
+            text: [0; BYTES],
+        }
+    }
+}
