@@ -4,4 +4,6 @@ pub mod Question
 pub mod WrittenRule
 pub mod Standard
 pub mod StandardRule
+pub mod Bound
+pub mod BoundRule
 pub mod Messages

@@ -42,7 +42,7 @@ module _ (n size : ℕ) (rows rows' : List ℕ)
         (map_numbers ((written n size rows).step s) ((written n size rows').step s) (2 ^ n)
         (λ c hc. ap (λ x. cond (ltb s size && ltb c (2 ^ n)) x 0) (next s c h hc)))
 
-    text_of_same : table_text n size rows ≡ table_text n size rows'
+    pub text_of_same : table_text n size rows ≡ table_text n size rows'
     unfolding table_text
     text_of_same = ap (λ l. names_line n ++ l) (join_numbers (row_line (written n size rows)) (row_line (written n size rows')) size one_line)
 

@@ -1,10 +1,12 @@
 //! Tables written as text.
 #![tactic(auto)]
 
+mod line;
 mod table;
 mod text;
 mod unsaved;
 
+pub use line::{write_line, write_names};
 pub use table::save_rows;
 pub use unsaved::Unsaved;
 
@@ -71,5 +73,25 @@ mod tests {
         };
         assert_eq!(rt; save_rows(&rows, &mut buffer), Err(Unsaved::TooManySets));
         assert!(rt; buffer == [9; 43]);
+    }
+    // One line alone, into a buffer with a byte to spare, which stays.
+    #[test]
+    fn lines(rt: HostRuntime) {
+        let mut buffer = [9u8; 12];
+        assert_eq!(rt; write_line(&[0, 10, 65535], &mut buffer), Some(11));
+        assert!(rt; buffer == *b"0 10 65535\n\t");
+        let mut names = [9u8; 21];
+        assert_eq!(rt; write_names(1, &mut names), Some(20));
+        assert!(rt; names == *b"state accepts n0 n1\n\t");
+    }
+
+    // One byte too few, or one set too many: nothing is written.
+    #[test]
+    fn no_line(rt: HostRuntime) {
+        let mut buffer = [9u8; 10];
+        assert_eq!(rt; write_line(&[0, 10, 65535], &mut buffer), None);
+        assert_eq!(rt; write_names(0, &mut buffer), None);
+        assert_eq!(rt; write_names(5, &mut buffer), None);
+        assert!(rt; buffer == [9; 10]);
     }
 }

@@ -10,10 +10,10 @@ use crate::unsaved::Unsaved;
 use words::Rows;
 
 // The most sets that a table is saved over.
-const MOST_SETS: u8 = 4;
+pub(crate) const MOST_SETS: u8 = 4;
 
 // Lays the line of names.
-fn lay_names(text: &mut Text, rows: &Rows)
+pub(crate) fn lay_names(text: &mut Text, rows: &Rows)
     ensures { Lays (names_line rows.now.places) text.old text.new }
 {
     text.bytes(b"state accepts");

@@ -1,0 +1,15 @@
+pub mod Values
+pub mod Names
+pub mod RowLines
+pub mod NamesApart
+pub mod Letters
+pub mod Found
+pub mod Sealings
+pub mod Cuttings
+pub mod Loadings
+pub mod Rewritten
+pub mod LinesApart
+pub mod Printed
+pub mod SameValues
+pub mod SameText
+pub mod Small

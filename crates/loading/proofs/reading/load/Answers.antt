@@ -1,0 +1,26 @@
+use Rattle.loading.proofs.Rewritten.{loaded_text}
+use Rattle.loading.proofs.Loadings.{reads, loads_ok, loads_row_on, loads_seal}
+use Rattle.loading.proofs.reading.load.Goals as goal
+
+pub returns-in_err-draft-clause-loads : goal.returns-in_err-draft-clause-loads
+returns-in_err-draft-clause-loads c =
+    loads_row_on c.args.text.now c.args.memory.now c.args.name.now c.args.place.now c.cut.result.0.now c.cut.result.1.now c.cut.ensures c.in-Ok.draft c.in-Ok.ensures
+    c.take_rows.new.memory c.in_err-draft.field-0.0 c.from_residual.result c.from_residual.ensures.1 c.in_err-draft.ensures
+
+pub returns-in-Ok-seal-clause-loads : goal.returns-in-Ok-seal-clause-loads
+returns-in-Ok-seal-clause-loads c =
+    loads_ok c.args.text.now c.args.memory.now c.args.name.now c.args.place.now c.cut.result.0.now c.cut.result.1.now c.cut.ensures c.in-Ok.draft c.in-Ok.ensures
+    c.in_ok-draft.draft c.take_rows.new.memory c.seal.new.place c.in_ok-draft.ensures c.in-Ok-seal.ensures
+
+pub returns-in-Err-seal-clause-loads : goal.returns-in-Err-seal-clause-loads
+returns-in-Err-seal-clause-loads c =
+    loads_seal c.args.text.now c.args.memory.now c.args.name.now c.args.place.now c.cut.result.0.now c.cut.result.1.now c.cut.ensures c.in-Ok.draft c.in-Ok.ensures
+    c.in_ok-draft.draft c.take_rows.new.memory c.seal.new.place c.in-Err-seal.field-0 c.in_ok-draft.ensures c.in-Err-seal.ensures
+
+pub returns-in-Ok-seal-clause-same : goal.returns-in-Ok-seal-clause-same
+returns-in-Ok-seal-clause-same c =
+    let rows = c.in_ok-draft.ensures in
+    loaded_text c.args.text.now c.args.memory.now c.args.name.now c.in-Ok.draft rows.0 c.in_ok-draft.draft c.take_rows.new.memory c.args.place.now c.seal.new.place
+    (reads c.args.text.now c.args.memory.now c.args.name.now c.args.place.now c.cut.result.0.now c.cut.result.1.now c.cut.ensures c.in-Ok.draft c.in-Ok.ensures
+    c.in_ok-draft.draft c.take_rows.new.memory rows)
+    c.in-Ok-seal.ensures

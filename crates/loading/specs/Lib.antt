@@ -1,0 +1,9 @@
+pub mod Numbers
+pub mod Lines
+pub mod Drafts
+pub mod Loaded
+pub mod LoadedRule
+pub mod Sealing
+pub mod Cutting
+pub mod Whole
+pub mod Rowwise

@@ -1,0 +1,20 @@
+//! Saved tables that come back: a draft takes them line by line, and is sealed as a loaded book.
+#![tactic(auto)]
+
+mod answering;
+mod draft;
+mod filling;
+mod lines;
+mod loaded;
+mod reading;
+mod seal;
+mod unloaded;
+
+pub use draft::Draft;
+pub use loaded::Loaded;
+pub use reading::{Fault, load};
+pub use seal::Unsealed;
+pub use unloaded::Unloaded;
+
+#[cfg(test)]
+mod tests;
