@@ -13,3 +13,5 @@ pub mod Printed
 pub mod SameValues
 pub mod SameText
 pub mod Small
+pub mod Accepting
+pub mod NeverRefused

@@ -5,12 +5,19 @@ use Rattle.loading.specs.declared.draft.Draft.{Draft}
 use Rattle.loading.specs.declared.loaded.Loaded.{Loaded}
 use Rattle.loading.specs.declared.reading.Fault.{Fault}
 use Rattle.loading.specs.declared.seal.Unsealed.{Unsealed}
+use Rattle.loading.specs.declared.unloaded.Unloaded.{Unloaded}
 use Rattle.loading.specs.Cutting.{cut, Cuts}
 use Rattle.loading.specs.Drafts.{Begins}
 use Rattle.loading.specs.Rowwise.{TakesRows}
 use Rattle.loading.specs.Sealing.{Seals}
 use Rattle.loading.specs.Whole.{Loads, Reads}
 use Rattle.loading.proofs.Cuttings.{takes_rows}
+
+-- the first line begins no draft
+pub loads_none : (text memory name : List ℕ) (b : Loaded) (first rest : List ℕ) → ◌≡◌ {A = List ℕ × List ℕ} (first, rest) (cut text)
+    → (why : Unloaded) → Begins first (length memory) (Err why) → Loads text memory name b memory b (Err (record { line = 1; why = why }))
+loads_none text memory name b first rest whole why refused =
+    (refl, inl (refl, subst (λ x. Begins x (length memory) (Err why)) (ap (λ (x : List ℕ × List ℕ). x.0) whole) refused, refl))
 
 module _ (text memory name : List ℕ) (b : Loaded) (first rest : List ℕ) (whole : ◌≡◌ {A = List ℕ × List ℕ} (first, rest) (cut text)) (d : Draft)
     (begins : Begins first (length memory) (Ok d))

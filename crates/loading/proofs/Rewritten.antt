@@ -21,7 +21,7 @@ use Rattle.loading.proofs.Cuttings.{takes_rows}
 
 -- ---- the lines that are cut from a text make the text
 
-joined : List (List ℕ) → List ℕ
+pub joined : List (List ℕ) → List ℕ
 joined [] = []
 joined (line ∷ lines) = line ++ joined lines
 
@@ -34,7 +34,7 @@ cut_whole : (text : List ℕ) → (cut text).0 ++ (cut text).1 ≡ text
 cut_whole [] = refl
 cut_whole (b ∷ text) = cut_one b text (eqb b 10) (cut_whole text)
 
-cuts_whole : (text : List ℕ) (lines : List (List ℕ)) (rest : List ℕ) → Cuts text lines rest → joined lines ++ rest ≡ text
+pub cuts_whole : (text : List ℕ) (lines : List (List ℕ)) (rest : List ℕ) → Cuts text lines rest → joined lines ++ rest ≡ text
 unfolding joined
 cuts_whole text [] rest cuts = cuts
 cuts_whole text (line ∷ lines) rest cuts =
@@ -51,7 +51,7 @@ module _ (base : ℕ) (cells memory memory' : List ℕ) (put : PutAt base cells 
       ∙ get_or_append_left (take base memory) (cells ++ drop (base + length cells) memory) 0 x (omega (arith, h, length-take-le base memory within))
       ∙ get_or-take base memory x 0 h
 
-  put_inside : (i : ℕ) → i < length cells → get_or memory' (base + i) 0 ≡ get_or cells i 0
+  pub put_inside : (i : ℕ) → i < length cells → get_or memory' (base + i) 0 ≡ get_or cells i 0
   put_inside i h =
       ap (λ l. get_or l (base + i) 0) put
       ∙ ap (λ b. get_or (take base memory ++ (cells ++ drop (base + length cells) memory)) (b + i) 0) (sym (length-take-le base memory within))
@@ -59,13 +59,13 @@ module _ (base : ℕ) (cells memory memory' : List ℕ) (put : PutAt base cells 
       ∙ get_or_append_left cells (drop (base + length cells) memory) 0 i h
 
 -- the place of a row lies within the memory
-row_within : (d : Draft) (memory line : List ℕ) (e : Draft) (m : List ℕ) → TakesRow d memory line e m (Ok tt) → d.rows * width d.places ≤ length memory
+pub row_within : (d : Draft) (memory line : List ℕ) (e : Draft) (m : List ℕ) → TakesRow d memory line e m (Ok tt) → d.rows * width d.places ≤ length memory
 row_within d memory line e m row =
     let enough : room d.places ≤ length memory = ⊎_elim (λ l. absurd (row.0.0 l)) (λ l. l) (cases_lt (length memory) (room d.places)) in
     omega (arith, enough, mul-le-mul_right (width d.places) d.few_rows)
 
 -- later rows leave those before them as they are
-kept : (d : Draft) (memory : List ℕ) (lines : List (List ℕ)) (e : Draft) (m : List ℕ) → Takes d memory lines e m
+pub kept : (d : Draft) (memory : List ℕ) (lines : List (List ℕ)) (e : Draft) (m : List ℕ) → Takes d memory lines e m
     → (x : ℕ) → x < d.rows * width d.places → get_or m x 0 ≡ get_or memory x 0
 kept d memory [] e m taken x h = ap (λ l. get_or l x 0) taken.1
 kept d memory (line ∷ lines) e m taken x h =
@@ -79,7 +79,7 @@ kept d memory (line ∷ lines) e m taken x h =
     more : (a b : ℕ) → b ≡ a + 1 → a ≤ b
     more a b e = omega arith
 
-same_places : (d : Draft) (memory : List ℕ) (lines : List (List ℕ)) (e : Draft) (m : List ℕ) → Takes d memory lines e m → e.places ≡ d.places
+pub same_places : (d : Draft) (memory : List ℕ) (lines : List (List ℕ)) (e : Draft) (m : List ℕ) → Takes d memory lines e m → e.places ≡ d.places
 same_places d memory [] e m taken = ap (λ (x : Draft). x.places) taken.0
 same_places d memory (line ∷ lines) e m taken = same_places taken.0 taken.1 lines e m taken.3 ∙ taken.2.1
 
@@ -141,7 +141,7 @@ module _ (k n s : ℕ) (line row cells : List ℕ) (there : s < n) (is : IsRow k
     unfolding nexts mark row_line
     line_same = is.5 ∙ ap (λ v. line_of (map decimal v)) (sym values_same)
 
-row_long : (k s : ℕ) (line row : List ℕ) → IsRow k s line row → length row ≡ width k
+pub row_long : (k s : ℕ) (line row : List ℕ) → IsRow k s line row → length row ≡ width k
 row_long k s line row is = omega (arith, ap length is.6, length-append is.0 (is.1 ∷ []), is.2)
 
 next_number : (r : ℕ) → r + 1 ≡ suc r
@@ -150,7 +150,7 @@ next_number r = omega arith
 -- ---- all lines
 
 module _ (k n : ℕ) (cells : List ℕ) where
-  lines_same : (d : Draft) (memory : List ℕ) (lines : List (List ℕ)) (e : Draft) (m : List ℕ) → d.places ≡ k → Takes d memory lines e m → e.rows ≤ n
+  pub lines_same : (d : Draft) (memory : List ℕ) (lines : List (List ℕ)) (e : Draft) (m : List ℕ) → d.places ≡ k → Takes d memory lines e m → e.rows ≤ n
       → ((x : ℕ) → x < e.rows * width k → get_or cells x 0 ≡ get_or m x 0)
       → flat_map (row_line (written k n cells)) (numbers e.rows) ≡ flat_map (row_line (written k n cells)) (numbers d.rows) ++ joined lines
   unfolding joined

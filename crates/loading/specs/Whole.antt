@@ -1,11 +1,15 @@
 -- Loading a whole text.
-use Rattle.std.specs.Prelude.{◌≡◌, ◌≢◌, ℕ, ◌+◌, ◌⊎◌, List, [], ◌∷◌, length, Ok, Err, Result}
+use Rattle.std.specs.Prelude.{◌≡◌, ◌≢◌, ℕ, ◌+◌, ◌≤◌, ◌⊎◌, Bool, List, [], ◌∷◌, length, Ok, Err, Result}
+use Rattle.words.specs.Residuals.{BySets}
+use Rattle.words.specs.TableOf.{TableOf}
+use Rattle.saving.specs.TableText.{table_text}
+use Rattle.books.specs.Names.{IsName}
 use Rattle.loading.specs.declared.draft.Draft.{Draft}
 use Rattle.loading.specs.declared.loaded.Loaded.{Loaded}
 use Rattle.loading.specs.declared.reading.Fault.{Fault}
 use Rattle.loading.specs.declared.seal.Unsealed.{Unsealed}
 use Rattle.loading.specs.Cutting.{cut, Cuts}
-use Rattle.loading.specs.Drafts.{Begins, TakesRow}
+use Rattle.loading.specs.Drafts.{Begins, TakesRow, room}
 use Rattle.loading.specs.Sealing.{Seals}
 
 -- a draft takes lines one after another
@@ -29,3 +33,10 @@ Loads text memory name b memory' b' (Err f) =
     × (f.line ≡ length lines + 2) × TakesRow e m (cut rest).0 e memory' (Err f.why))
     ⊎ ((d : Draft) × (lines : List (List ℕ)) × (e : Draft) × (x : Unsealed) × Reads text memory d lines e memory' []
     × (f.line ≡ 0) × (f.why ≡ x.why) × Seals e memory' name b b (Err x))))
+
+-- What save wrote is loaded: the text of the table of a language that depends only on the sets coded, over 1 to 4 sets and of at most
+-- 512 states, where the memory is long enough and the name is one.
+abbrev pub LoadsSaved : List ℕ → ℕ → List ℕ → Result (Unit {0}) Fault → Type 0
+LoadsSaved text memory name r =
+    (k : ℕ) (L : List ℕ → Bool) (rows : List ℕ) (size : ℕ) → 1 ≤ k → k ≤ 4 → size ≤ 512 → TableOf k L rows size → BySets k L
+    → text ≡ table_text k size rows → room k ≤ memory → IsName name → r ≡ Ok tt

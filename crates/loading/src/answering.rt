@@ -57,7 +57,7 @@ impl Book for Loaded {
     ghost rule = { loaded_rule };
 
     fn count(&self) -> Predicate {
-        self.states.min(1) as Predicate
+        Predicate::from(self.states > 0)
     }
 
     fn places(&self, p: Predicate) -> u8 {

@@ -11,7 +11,7 @@ mod seal;
 mod unloaded;
 
 pub use draft::Draft;
-pub use loaded::Loaded;
+pub use loaded::{Loaded, MOST_CELLS};
 pub use reading::{Fault, load};
 pub use seal::Unsealed;
 pub use unloaded::Unloaded;

@@ -2,8 +2,8 @@
 ghost use Rattle.std.specs.Prelude.{◌≡◌, ℕ, ◌+◌, ◌*◌, ◌^◌, ◌<◌, ◌≤◌, slice_index};
 ghost use Rattle.words.specs.Rows.{next_of, mark_of};
 
-/// The most numbers that a saved table has: 512 rows over 4 places.
-pub(crate) const MOST_CELLS: usize = 8704;
+/// The most numbers that a saved table has: 512 rows over 4 places. So much memory is enough for every draft.
+pub const MOST_CELLS: usize = 8704;
 
 /// A book with one predicate, number 0: a saved table under a name. Its start is state 0. A place for a loaded book holds
 /// a blank one at first, which has no predicate.

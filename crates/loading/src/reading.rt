@@ -2,7 +2,7 @@
 ghost use Rattle.std.specs.Prelude.{◌≡◌, ◌≢◌, ℕ, ◌<◌, MatchOption, IfOk, length, slice_index};
 ghost use Rattle.saving.specs.TableText.{table_text};
 ghost use Rattle.loading.specs.Cutting.{cut};
-ghost use Rattle.loading.specs.Whole.{Loads};
+ghost use Rattle.loading.specs.Whole.{Loads, LoadsSaved};
 ghost use Rattle.loading.specs.Rowwise.{TakesRows};
 
 use crate::draft::Draft;
@@ -56,6 +56,7 @@ fn take_rows(draft: Draft, memory: &mut [u16], text: &[u8]) -> Result<Draft, Fau
 /// checks of seal. A text that is refused leaves the place as it was; the rows before the line at fault are in the memory.
 pub fn load(text: &[u8], memory: &mut [u16], name: &[u8], place: &mut Loaded) -> Result<(), Fault>
     ensures loads { Loads text.now memory.old name.now place.old memory.new place.new result }
+    ensures saved { LoadsSaved text.now (length memory.old) name.now result }
     ensures same { IfOk result (λ _. text.now ≡ table_text place.new.places place.new.states place.new.cells) }
 {
     let (first, rest) = cut(text);

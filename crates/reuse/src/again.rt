@@ -1,13 +1,11 @@
 //! The round trip: a saved table is loaded, placed and saved again.
+use crate::told::Reason;
 use crate::using::NAME;
 use calls::{Output, Reply, Work};
-use loading::Loaded;
+use loading::{Loaded, MOST_CELLS};
 use returning::{Unreturned, save_again};
 use std::io;
 use tray::{Refusal, Tray};
-
-// How many numbers a draft needs, whatever its places.
-const MEMORY: usize = 8704;
 
 // How many states the table may have.
 const BUDGET: usize = 64;
@@ -33,7 +31,18 @@ pub fn tell_return(rt: &impl Print, text: &[u8], place: &mut Loaded) -> io::Resu
         Ok(Reply::Refused(Refusal::TooFewTables)) => {
             println!(rt; "The table is not saved again: it has more than {BUDGET} states.")
         }
-        _ => println!(rt; "The table is not saved again."),
+        Ok(Reply::Refused(why)) | Err(Unreturned::NotOpened(why)) => {
+            println!(rt;
+                "The table is not saved again: check {}: {why}",
+                why.number()
+            )
+        }
+        Err(Unreturned::NotLoaded(fault)) => {
+            println!(rt; "The table is not loaded again: {}", Reason(fault))
+        }
+        Ok(Reply::Built { .. } | Reply::Dropped | Reply::Judged(_)) => {
+            println!(rt; "The table is not saved again.")
+        }
     }
 }
 
@@ -42,7 +51,7 @@ fn returned(
     place: &mut Loaded,
     output: &mut Output<BUDGET, BYTES>,
 ) -> Result<Reply, Unreturned> {
-    let mut memory = [0u16; MEMORY];
+    let mut memory = [0u16; MOST_CELLS];
     let mut tables = [0u16; SLOT];
     let mut spare = [0u16; 2 * SLOT];
     let mut tray = Tray::over(&mut tables, &mut spare);

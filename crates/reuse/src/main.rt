@@ -9,16 +9,13 @@ mod using;
 use crate::again::tell_return;
 use crate::told::Reason;
 use crate::using::{NAME, tell_uses};
-use loading::{Fault, Loaded, load};
+use loading::{Fault, Loaded, MOST_CELLS, load};
 use std::io;
 use std::io::Read;
 
-// How many numbers a draft needs, whatever its places.
-const MEMORY: usize = 8704;
-
 // Loads a text as `tri`.
 fn load_table(text: &[u8], place: &mut Loaded) -> Result<(), Fault> {
-    let mut memory = [0u16; MEMORY];
+    let mut memory = [0u16; MOST_CELLS];
     load(text, &mut memory, NAME, place)
 }
 

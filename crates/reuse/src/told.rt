@@ -30,7 +30,10 @@ pub struct Entry<'l> {
 
 impl fmt::Display for Entry<'_> {
     fn fmt<W: fmt::Write>(&self, f: &mut fmt::Formatter<W>) -> fmt::Result {
-        write_call(f, self.call)?;
+        match self.answer {
+            Err(_) => f.write_str("open")?,
+            Ok(_) => write_call(f, self.call)?,
+        }
         match self.answer {
             Ok(Reply::Built { met, kept }) => write!(f, ": {met} met, {kept} kept"),
             Ok(Reply::Refused(why)) | Err(why) => {

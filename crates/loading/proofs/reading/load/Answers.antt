@@ -1,5 +1,6 @@
+use Rattle.loading.proofs.NeverRefused.{loads_saved}
 use Rattle.loading.proofs.Rewritten.{loaded_text}
-use Rattle.loading.proofs.Loadings.{reads, loads_ok, loads_row_on, loads_seal}
+use Rattle.loading.proofs.Loadings.{reads, loads_none, loads_ok, loads_row_on, loads_seal}
 use Rattle.loading.proofs.reading.load.Goals as goal
 
 pub returns-in_err-draft-clause-loads : goal.returns-in_err-draft-clause-loads
@@ -24,3 +25,17 @@ returns-in-Ok-seal-clause-same c =
     (reads c.args.text.now c.args.memory.now c.args.name.now c.args.place.now c.cut.result.0.now c.cut.result.1.now c.cut.ensures c.in-Ok.draft c.in-Ok.ensures
     c.in_ok-draft.draft c.take_rows.new.memory rows)
     c.in-Ok-seal.ensures
+
+pub returns-in-Err-clause-saved : goal.returns-in-Err-clause-saved
+returns-in-Err-clause-saved c =
+    loads_saved c.args.text.now c.args.memory.now c.args.name.now c.args.place.now c.args.memory.now c.args.place.now _
+    (loads_none c.args.text.now c.args.memory.now c.args.name.now c.args.place.now c.cut.result.0.now c.cut.result.1.now c.cut.ensures c.in-Err.why c.in-Err.ensures)
+
+pub returns-in_err-draft-clause-saved : goal.returns-in_err-draft-clause-saved
+returns-in_err-draft-clause-saved c =
+    loads_saved c.args.text.now c.args.memory.now c.args.name.now c.args.place.now c.take_rows.new.memory c.args.place.now c.from_residual.result
+    (returns-in_err-draft-clause-loads c)
+
+pub returns-in-Err-seal-clause-saved : goal.returns-in-Err-seal-clause-saved
+returns-in-Err-seal-clause-saved c =
+    loads_saved c.args.text.now c.args.memory.now c.args.name.now c.args.place.now c.take_rows.new.memory c.seal.new.place _ (returns-in-Err-seal-clause-loads c)
