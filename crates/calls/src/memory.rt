@@ -7,10 +7,10 @@ use hiding::StateSet;
 /// Work memory for a budget of so many states: a record of each kind and eight links for each of them.
 #[derive(Drop)]
 pub struct Work<const STATES: usize> {
-    pub(crate) states: [u16; STATES],
-    pub(crate) pairs: [(u16, u16); STATES],
-    pub(crate) sets: [StateSet; STATES],
-    pub(crate) links: [[u16; 8]; STATES],
+    pub states: [u16; STATES],
+    pub pairs: [(u16, u16); STATES],
+    pub sets: [StateSet; STATES],
+    pub links: [[u16; 8]; STATES],
 }
 
 impl<const STATES: usize> Work<STATES> {

@@ -25,6 +25,20 @@ pub struct Tray<'m, 's> {
 }
 
 impl Tray<'_, '_> {
+    /// Over how many sets the tables are; 0 where the tray was never opened.
+    pub fn sets(&self) -> usize
+        ensures { result ≡ self.now.control.sets }
+    {
+        usize::from(self.control.sets)
+    }
+
+    /// How many tables the tray holds.
+    pub fn count(&self) -> usize
+        ensures { result ≡ self.now.control.count }
+    {
+        self.control.count
+    }
+
     // Whether so many records or links are too few to explore with.
     pub(crate) fn lacks(&self, records: usize, links: usize) -> bool
         ensures { Decides result ((records < self.now.control.budget) ⊎ (links < 8 * self.now.control.budget)) }

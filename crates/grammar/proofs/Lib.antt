@@ -1,0 +1,12 @@
+pub mod Noting
+pub mod Spelling
+pub mod Several
+pub mod Placing
+pub mod Growing
+pub mod Composing
+pub mod Positions
+pub mod Items
+pub mod Planned
+pub mod OneClaim
+pub mod Complete
+pub mod TextLaws

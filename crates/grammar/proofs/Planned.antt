@@ -1,0 +1,54 @@
+-- What reading the items comes to for the text.
+use Rattle.std.proofs.Common.{◌≡◌, ℕ, ◌+◌, ◌*◌, ◌<◌, ◌≤◌, nat_lt, cond, min, List, [], ◌∷◌, length, take, map, Some, None, Option, Ok, Err, Result, sym, refl, ap, ◌∙◌, subst, arith}
+use Rattle.std.proofs.lemmas.Bool.{cond-true, cond-false, le-ltb, lt-ltb}
+use Rattle.words.specs.Automata.{Automaton}
+use Rattle.tokens.specs.Items.{items_of}
+use Rattle.tokens.specs.declared.item.Item.{Item}
+use Rattle.grammar.specs.declared.flaw.Flaw.{Flaw}
+use Rattle.grammar.specs.declared.flaw.Flaw.TheVariants.{NoRoom, TooLong}
+use Rattle.grammar.specs.declared.flaw.Flawed.{Flawed}
+use Rattle.grammar.specs.declared.step.Step.{Step}
+use Rattle.grammar.specs.Claims.{Claim, spelled, Fits}
+use Rattle.grammar.specs.Faults.{formula, fault}
+use Rattle.grammar.specs.Planning.{most, ReadsAs, text_fault, Plans}
+use Rattle.grammar.specs.Steps.{step_of, all_steps}
+use Rattle.grammar.specs.Reading.{ReadsAll}
+use Rattle.grammar.proofs.Spelling.{claim_fault}
+
+module _ (numbered : List ℕ → Option ℕ) (a : ℕ → Automaton) (sets : ℕ) (text : List ℕ) (room : ℕ) where
+  -- a text of the right length, with room for its steps, has the fault of its items
+  fault_of_items : length text ≤ 1024 → 3 * length text + 16 ≤ room → text_fault numbered a sets room text ≡ fault (most sets) (length text) (formula 0 ∷ []) (items_of numbered a text)
+  fault_of_items short wide =
+      cond-false (nat_lt 1024 (length text)) _ _ (le-ltb 1024 (length text) short)
+      ∙ cond-false (nat_lt room (3 * length text + 16)) _ _ (le-ltb room (3 * length text + 16) wide)
+
+  pub too_long : 1024 < length text → text_fault numbered a sets room text ≡ Some (TooLong, 0)
+  too_long long = cond-true (nat_lt 1024 (length text)) _ _ (lt-ltb 1024 (length text) long)
+
+  pub no_room : length text ≤ 1024 → room < 3 * length text + 16 → text_fault numbered a sets room text ≡ Some (NoRoom, 0)
+  no_room short few =
+      cond-false (nat_lt 1024 (length text)) _ _ (le-ltb 1024 (length text) short)
+      ∙ cond-true (nat_lt room (3 * length text + 16)) _ _ (lt-ltb room (3 * length text + 16) few)
+
+  module _ (n : ℕ) (over : n ≡ most sets) (items : List Item) (is : items ≡ items_of numbered a text) (short : length text ≤ 1024)
+      (wide : 3 * length text + 16 ≤ room)
+    where
+      same_fault : fault n (length text) (formula 0 ∷ []) items ≡ text_fault numbered a sets room text
+      same_fault =
+          ap (fault n (length text) (formula 0 ∷ [])) is ∙ ap (λ k. fault k (length text) (formula 0 ∷ []) (items_of numbered a text)) over
+          ∙ sym (fault_of_items short wide)
+
+      pub plans : (old new : List Step) (r : Result ℕ Flawed) → length old ≡ room → ReadsAll n (length text) items old new r
+          → Plans numbered a sets text old new r
+      plans old new (Ok k) same h =
+          let f : Claim = h.2 in
+          let none : fault n (length text) (formula 0 ∷ []) items ≡ None =
+          ap (fault n (length text) (formula 0 ∷ [])) h.3 ∙ claim_fault n (length text) 0 f h.4 [] [] in (
+            subst (λ j. text_fault numbered a sets j text ≡ None) (sym same) (sym same_fault ∙ none),
+            h.0,
+            h.1,
+            f,
+            record { spells = sym is ∙ h.3; fits = subst (λ k. Fits k 0 f) over h.4 },
+            subst (λ j. map step_of (take k new) ≡ all_steps j f) over h.5,
+          )
+      plans old new (Err e) same h = (subst (λ j. text_fault numbered a sets j text ≡ Some (e.flaw, e.place)) (sym same) (sym same_fault ∙ h.0), h.1)

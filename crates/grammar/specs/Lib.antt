@@ -1,0 +1,9 @@
+pub mod Flaws
+pub mod Claims
+pub mod Faults
+pub mod Sources
+pub mod Written
+pub mod Reading
+pub mod Steps
+pub mod Planning
+pub mod TextLaws

@@ -1,0 +1,17 @@
+pub mod Keeping
+pub mod Dropping
+pub mod Piles
+pub mod Deciding
+pub mod Rising
+pub mod Above
+pub mod Underway
+pub mod Stepping
+pub mod Lists
+pub mod Numbering
+pub mod Alone
+pub mod Free
+pub mod Truths
+pub mod Positions
+pub mod Telling
+pub mod Whole
+pub mod MeaningLaws

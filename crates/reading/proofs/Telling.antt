@@ -1,0 +1,95 @@
+-- A test that tells the whole formula of a claim tells whether the sets that a word codes satisfy the claim.
+use Rattle.std.proofs.Common.{◌≡◌, ℕ, ◌+◌, ◌^◌, ◌<◌, Bool, true, false, cond, List, [], get_or, Option, Decides, sym, refl, ap, ◌∙◌, subst}
+use Rattle.std.specs.Prelude.{All}
+use Rattle.std.specs.Char.{is_ascii_lowercase}
+use Rattle.std.proofs.lemmas.Bool.{cond-true, false≢true}
+use Rattle.std.proofs.lemmas.Bool.Decides.{Decides-like}
+use Rattle.std.proofs.lemmas.List.Elements.{All-cons, All-append, All-weaker}
+use Rattle.words.specs.Automata.{Automaton}
+use Rattle.words.specs.Formulas.{Truth, Tells}
+use Rattle.words.specs.Relations.{Singleton}
+use Rattle.words.specs.Words.{Columns, coded}
+use Rattle.tokens.specs.Items.{items_of}
+use Rattle.tokens.specs.Numbering.{set_of}
+use Rattle.grammar.specs.declared.step.Spot.{Spot}
+use Rattle.grammar.specs.Claims.{Claim, atom, denial, and, or, implies, some, every, spelled, Fits, is_position, free}
+use Rattle.reading.specs.Formulas.{formula_of, whole}
+use Rattle.reading.specs.Meaning.{Meaning, Satisfied}
+use Rattle.reading.specs.Stepping.{Sure}
+use Rattle.reading.proofs.Alone.{singleton_power, member_of, member_of_singleton}
+use Rattle.reading.proofs.Free.{free_all}
+use Rattle.reading.proofs.Lists.{all_joined}
+use Rattle.reading.proofs.Numbering.{Known, letters_of, known}
+use Rattle.reading.specs.MeaningLaws.{variables}
+use Rattle.reading.proofs.Positions.{AloneBelow, positions_truth, sure_of_whole}
+use Rattle.reading.proofs.Truths.{Agree, Agrees, truth_is_meaning}
+
+-- every variable of a claim that fits has a set below n
+pub fitting : (n k : ℕ) (f : Claim) → Fits n k f → All (λ x. x.set < n) (variables f)
+fitting n k (atom at p spots) fits = fits.1
+fitting n k (denial at f) fits = fitting n (k + 1) f fits.1
+fitting n k (and at f g) fits = All-append (λ x. x.set < n) (variables f) (variables g) (fitting n (k + 1) f fits.1) (fitting n (k + 1) g fits.2)
+fitting n k (or at f g) fits = All-append (λ x. x.set < n) (variables f) (variables g) (fitting n (k + 1) f fits.1) (fitting n (k + 1) g fits.2)
+fitting n k (implies at f g) fits =
+    All-append (λ x. x.set < n) (variables f) (variables g) (fitting n (k + 1) f fits.1) (fitting n (k + 1) g fits.2)
+fitting n k (some at x f) fits = All-cons (λ y. y.set < n) x (variables f) fits.1 (fitting n (k + 1) f fits.2)
+fitting n k (every at x f) fits = All-cons (λ y. y.set < n) x (variables f) fits.1 (fitting n (k + 1) f fits.2)
+
+module _ (number name : ℕ → ℕ) (c : ℕ → ℕ) where
+  -- what the letters stand for: a set letter its set, and a position the member of its set
+  stands_for : ℕ → ℕ
+  stands_for letter = cond (is_ascii_lowercase letter) (member_of (c (number letter))) (c (number letter))
+
+  -- where the set of each position has one member, the letters stand for the sets
+  agree_alone : (n : ℕ) (x : Spot) → Known number name x → x.set < n → AloneBelow n c x → Agree c stands_for x
+  unfolding stands_for
+  agree_alone n x known_x less one = go (is_position x) (λ e. one e less)
+    where
+      s : ℕ
+      s = c (number x.letter)
+
+      go : (t : Bool) → (t ≡ true → Singleton (c x.set)) → c x.set ≡ cond t (2 ^ cond t (member_of s) s) (cond t (member_of s) s)
+      go true single = member_of_singleton (c x.set) (single refl) ∙ ap (λ i. 2 ^ member_of (c i)) known_x.0
+      go false single = ap c known_x.0
+
+  -- and the other way round
+  alone_agree : (v : ℕ → ℕ) (n : ℕ) (x : Spot) → Agree c v x → AloneBelow n c x
+  alone_agree v n x agree position less =
+      let power : c x.set ≡ 2 ^ v x.letter = agree ∙ cond-true (is_position x) (2 ^ v x.letter) (v x.letter) position in
+      subst Singleton (sym power) (singleton_power (v x.letter))
+
+  module _ (holds : ℕ → List ℕ → Type 0) (n : ℕ) (f : Claim) (knows : All (Known number name) (variables f))
+      (fits : All (λ x. x.set < n) (variables f)) (sure : Sure holds (whole n f)) where
+    agrees_free : (v : ℕ → ℕ) → All (Agree c v) (free [] f) → Agrees number name [] f c v
+    agrees_free v agree = (knows, agree, λ k d h none. absurd (false≢true none))
+
+    meaning_of : Truth holds (whole n f) c → (v : ℕ → ℕ) × All (Agree c v) (free [] f) × Meaning holds f v
+    meaning_of t =
+        let parts = (positions_truth holds c n (free [] f) (formula_of f)).0 t in
+        let at = all_joined (Known number name) (λ x. x.set < n) (λ x. Known number name x × (x.set < n)) (λ x k l. (k, l)) (variables f) knows fits in
+        let agree = all_joined (λ x. Known number name x × (x.set < n)) (AloneBelow n c) (Agree c stands_for)
+        (λ x h one. agree_alone n x h.0 h.1 one) (free [] f) (free_all (λ x. Known number name x × (x.set < n)) f [] at) parts.1 in (
+          stands_for,
+          agree,
+          (truth_is_meaning holds number name f [] c stands_for (sure_of_whole holds n f sure) (agrees_free stands_for agree)).0 parts.0,
+        )
+
+    truth_of : (v : ℕ → ℕ) × All (Agree c v) (free [] f) × Meaning holds f v → Truth holds (whole n f) c
+    truth_of m =
+        (positions_truth holds c n (free [] f) (formula_of f)).1 (
+          (truth_is_meaning holds number name f [] c m.0 (sure_of_whole holds n f sure) (agrees_free m.0 m.1)).1 m.2,
+          All-weaker (Agree c m.0) (AloneBelow n c) (alone_agree m.0 n) (free [] f) m.1,
+        )
+
+-- The table of the whole formula accepts the words that code sets which satisfy the claim.
+pub means : (numbered : List ℕ → Option ℕ) (a : ℕ → Automaton) (holds : ℕ → List ℕ → Type 0) (n : ℕ) (text : List ℕ) (f : Claim) (L : List ℕ → Bool)
+    → items_of numbered a text ≡ spelled f [] → Fits n 0 f
+    → Sure holds (whole n f) → Tells n holds (whole n f) L
+    → (w : List ℕ) → Columns n w → Decides (L w) (Satisfied holds f w)
+means numbered a holds n text f L spells fits sure tells w columns =
+    let number : ℕ → ℕ = λ letter. set_of letter (letters_of text) in
+    let name : ℕ → ℕ = λ set. get_or (letters_of text) set 0 in
+    let c : ℕ → ℕ = λ i. coded i w in
+    let knows = known numbered a text f spells in
+    let small = fitting n 0 f fits in
+    Decides-like (L w) (meaning_of number name c holds n f knows small sure) (truth_of number name c holds n f knows small sure) (tells w columns)

@@ -1,0 +1,77 @@
+-- From the steps of a claim to what reading its text answers.
+use Rattle.std.proofs.Common.{◌≡◌, ℕ, ◌+◌, ◌≤◌, List, [], ◌∷◌, map, None, Option, Ok, Err, Result, Decides, sym, ap, ◌∙◌, subst, arith}
+use Rattle.std.proofs.lemmas.List.Elements.{All-head}
+use Rattle.words.specs.Automata.{Automaton}
+use Rattle.words.specs.Formulas.{Tells}
+use Rattle.words.specs.Words.{Columns}
+use Rattle.tokens.specs.Items.{items_of}
+use Rattle.tray.specs.Refusals.{number_of}
+use Rattle.tray.specs.View.{says}
+use Rattle.tray.specs.declared.control.Control.{Control}
+use Rattle.tray.specs.declared.refusal.Refusal.{Refusal}
+use Rattle.grammar.specs.declared.step.Step.{Step}
+use Rattle.grammar.specs.Claims.{Claim, spelled, Fits}
+use Rattle.grammar.specs.Planning.{most, ReadsAs, text_fault}
+use Rattle.grammar.specs.Steps.{step_of, all_steps}
+use Rattle.reading.specs.Building.{AllMade, RefusedAt}
+use Rattle.reading.specs.Formulas.{whole}
+use Rattle.reading.specs.Meaning.{Satisfied}
+use Rattle.reading.specs.Reading.{RefusedFor, ReadsText}
+use Rattle.reading.specs.Stepping.{SameTray, StandsAbove, Sure, Counted, Enough, pile_after, terms_of, Builds}
+use Rattle.reading.specs.declared.fault.Fault.{Fault}
+use Rattle.reading.specs.declared.fault.Reason.TheVariants.{Call as call}
+use Rattle.reading.proofs.Piles.{whole_pile, whole_enough}
+use Rattle.reading.proofs.Telling.{means}
+
+pub most_is : (n : ℕ) → n ≤ 8 → most n ≡ n
+most_is n few = omega (arith, few)
+
+module _ (numbered : List ℕ → Option ℕ) (size : ℕ) (a : ℕ → Automaton) (holds : ℕ → List ℕ → Type 0) (records : ℕ) (text : List ℕ)
+    (c : Control) (tables : List ℕ) (few : c.sets ≤ 8)
+  where
+    same_reading : (f : Claim) → ReadsAs numbered a c.sets text f → (items_of numbered a text ≡ spelled f []) × Fits c.sets 0 f
+    same_reading f r = (r.spells, subst (λ n. Fits n 0 f) (most_is c.sets few) r.fits)
+
+    -- the table on top tells the claim
+    top_means : (f : Claim) (c' : Control) (tables' : List ℕ) → ReadsAs numbered a c.sets text f
+        → StandsAbove holds c.count c tables c' tables' (whole c.sets f ∷ [])
+        → (w : List ℕ) → Columns c.sets w → Decides (says c' tables' c.count w) (Satisfied holds f w)
+    top_means f c' tables' r s =
+        let reading = same_reading f r in
+        let bottom : c.count + 0 ≡ c.count = omega arith in
+        means numbered a holds c.sets text f (says c' tables' c.count) reading.0 reading.1 (All-head (Sure holds) (whole c.sets f) [] s.sure)
+        (subst (λ k. Tells c.sets holds (whole c.sets f) (says c' tables' k)) bottom s.tells.1)
+
+    module _ (room : ℕ) (f : Claim) (steps : List Step) (none : text_fault numbered a c.sets room text ≡ None) (reads : ReadsAs numbered a c.sets text f)
+        (are : map step_of steps ≡ all_steps (most c.sets) f)
+      where
+        planned : map step_of steps ≡ all_steps c.sets f
+        planned = are ∙ ap (λ n. all_steps n f) (most_is c.sets few)
+
+        pub read_text : (c' : Control) (tables' : List ℕ) (r : Result (ℕ × ℕ) Fault) → Builds records size a holds steps c tables c' tables' r
+            → ReadsText numbered size a holds records room text c tables c' tables' r
+        read_text c' tables' (Ok counts) h =
+            let t = terms_of c records size a in
+            let done = subst (λ calls. Enough 0 calls → AllMade t holds c.count [] calls × StandsAbove holds c.count c tables c' tables' (pile_after [] calls)
+            × Counted t holds (pile_after [] calls) counts) planned h (whole_enough c.sets f) in
+            let stands = subst (λ pile. StandsAbove holds c.count c tables c' tables' pile) (whole_pile c.sets f) done.1 in
+            let counted = subst (λ pile. Counted t holds pile counts) (whole_pile c.sets f) done.2 in (
+              none,
+              f,
+              record {
+                reads = reads;
+                passes = done.0;
+                settings = stands.settings;
+                count = stands.count;
+                others = stands.others;
+                below = stands.memory;
+                means = top_means f c' tables' reads stands;
+                met = counted.0;
+                kept = counted.1;
+              },
+            )
+        read_text c' tables' (Err e) h =
+            let t = terms_of c records size a in
+            let done = subst (λ calls. Enough 0 calls → (why : Refusal) × (e.reason ≡ call why)
+            × RefusedAt t holds c.count [] calls (number_of why) e.place × SameTray c tables c' tables') planned h (whole_enough c.sets f) in
+            (subst (λ reason. RefusedFor numbered size a holds records room text c reason e.place) (sym done.1) (none, f, reads, done.2), done.3)

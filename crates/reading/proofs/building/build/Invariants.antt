@@ -1,0 +1,12 @@
+use Rattle.std.proofs.Common.{◌≡◌}
+use Rattle.tray.specs.Memory.{SameMemory}
+use Rattle.reading.proofs.Stepping.{Come}
+use Rattle.reading.proofs.building.build.Given as goal
+
+-- where each step finds enough, the tray holds the pile that the steps so far have made
+abbrev pub invariant-loop-step : goal.invariant-loop-step
+invariant-loop-step g l =
+    SameMemory l.initial.tray l.tray
+    × (l.below ≡ l.initial.tray.control.count)
+    × Come g.row.STATES (g.B.Book.size l.book) (g.B.Book.automaton l.book) (g.B.Book.holds l.book) l.steps l.initial.tray.control l.initial.tray.tables.now
+    l.step-index l.tray.control l.tray.tables.now l.counts

@@ -1,0 +1,57 @@
+//! Why a text is refused.
+ghost use Rattle.std.specs.Prelude.{◌≡◌};
+ghost use Rattle.reading.specs.Reasons.{reason_number, layer_of};
+
+use grammar::{Flaw, Flawed};
+use tray::Refusal;
+
+/// What is wrong: the text itself, or a building call that the tray refused.
+#[derive(Clone, Copy, PartialEq, Eq, Debug)]
+pub enum Reason {
+    Text(Flaw),
+    Call(Refusal),
+}
+
+/// Why a text is refused, and the byte of the text that it is refused for.
+#[derive(Clone, Copy, PartialEq, Eq, Debug)]
+pub struct Fault {
+    pub reason: Reason,
+    pub place: usize,
+}
+
+impl Reason {
+    /// The number of the check that failed.
+    pub fn number(self) -> u8
+        ensures { result ≡ reason_number self }
+    {
+        match self {
+            Reason::Text(flaw) => flaw.number(),
+            Reason::Call(refusal) => refusal.number(),
+        }
+    }
+
+    /// The layer of the check: 1 for the bytes, 2 for the grammar, and 3 for memory and the tray.
+    pub fn layer(self) -> u8
+        ensures { result ≡ layer_of (reason_number self) }
+    {
+        match self.number() {
+            9 | 10 | 16 | 17 => 1,
+            11..=15 => 2,
+            _ => 3,
+        }
+    }
+}
+
+/// A flaw of the text is what the text is refused for.
+impl From<Flawed> for Fault {
+    ghost use Rattle.reading.specs.Reasons.{fault_of};
+
+    ghost from_gives = { λ flawed fault. fault ≡ fault_of flawed };
+
+    fn from(flawed: Flawed) -> Fault {
+        Fault {
+            reason: Reason::Text(flawed.flaw),
+            place: flawed.place,
+        }
+    }
+}

@@ -1,0 +1,13 @@
+use Rattle.std.proofs.Common.{length, ◌-◌, ◌≡◌, ◌≤◌, drop}
+use Rattle.tokens.specs.Pieces.{pieces}
+use Rattle.tokens.proofs.token.token_begin.Given as goal
+
+abbrev pub invariant-loop-at : goal.invariant-loop-at
+invariant-loop-at l = record {
+  behind : l.from ≤ l.at;
+  within : l.at ≤ length l.text;
+  same : pieces l.from (drop l.from l.text) ≡ pieces l.at (drop l.at l.text);
+}
+
+abbrev pub decreases-loop-at : goal.decreases-loop-at
+decreases-loop-at l = length l.text - l.at

@@ -1,0 +1,5 @@
+pub mod Marks
+pub mod Pieces
+pub mod Numbering
+pub mod Senses
+pub mod Items

@@ -1,0 +1,15 @@
+//! The tokens of a claim's text, and what a book makes of them.
+#![tactic(auto)]
+
+mod item;
+mod letters;
+mod listing;
+mod mark;
+mod token;
+
+pub use item::{Item, Sense};
+pub use listing::{LONGEST, list_items};
+pub use mark::Mark;
+
+#[cfg(test)]
+mod tests;
