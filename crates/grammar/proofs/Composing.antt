@@ -1,11 +1,11 @@
 -- A claim is read from its parts.
-use Rattle.std.proofs.Common.{◌≡◌, ℕ, Bool, true, false, cond, nat_lt, ◌+◌, ◌-◌, ◌*◌, ◌<◌, ◌≤◌, List, [], ◌∷◌, ◌++◌, length, take, map, filter, not, All, Some, None, Option, sym, refl, ap, ◌∙◌, subst, arith}
+use Rattle.std.proofs.Common.{◌≡◌, ℕ, Bool, true, false, cond, nat_lt, ◌+◌, ◌-◌, ◌*◌, ◌<◌, ◌≤◌, List, [], ◌∷◌, ◌++◌, length, take, map, filter, not, All, Some, None, sym, refl, ap, ◌∙◌, subst, arith}
 use Rattle.std.proofs.lemmas.List.{append-nil, length-append, length-take-le}
 use Rattle.std.proofs.lemmas.Bool.{cond-false, le-ltb}
 use Rattle.std.proofs.lemmas.List.Elements.{All-cons, All-nil}
 use Rattle.tokens.specs.declared.item.Item.{Item}
 use Rattle.tokens.specs.declared.mark.Mark.{Mark}
-use Rattle.tokens.specs.declared.mark.Mark.TheVariants.{Not, Some as some-mark, Every}
+use Rattle.tokens.specs.declared.mark.Mark.TheVariants.{Not}
 use Rattle.grammar.specs.declared.flaw.Flaw.TheVariants.{TooDeep}
 use Rattle.grammar.specs.declared.flaw.Flawed.{Flawed}
 use Rattle.grammar.specs.declared.plan.Plan.{Plan}
@@ -18,9 +18,9 @@ use Rattle.grammar.specs.declared.source.Source.{Source}
 use Rattle.grammar.specs.declared.step.Spot.{Spot}
 use Rattle.grammar.specs.Claims.{Claim, is_position, atom, denial, and, or, implies, some, every, mark_item, name_item, variable_item, spelled, Fits, among, free as free_of}
 use Rattle.grammar.specs.Faults.{Due, formula, variable, parts, or_later, fault}
-use Rattle.grammar.specs.Steps.{Call, place as place_call, negate, hide, alone, hiding, steps as steps_of}
+use Rattle.grammar.specs.Steps.{place as place_call, negate, hide, alone, hiding, steps as steps_of}
 use Rattle.grammar.specs.Sources.{left_of, opened_item, Faulty, mark_of_connective, mark_of_quantifier}
-use Rattle.grammar.specs.Written.{written, Notes, Writes, Adds, between, joined_by, quantified}
+use Rattle.grammar.specs.Written.{Writes, Adds, between, joined_by, quantified}
 use Rattle.grammar.specs.Reading.{ReadsClaim}
 use Rattle.grammar.proofs.Spelling.{claim_fault, variables_fault}
 use Rattle.grammar.proofs.Growing.{Grows, grows_then, grows_as, grows_writes, grows_adds, grows_claim, grows_fewer, grows_bind}
@@ -36,7 +36,8 @@ bound_by at for-some x f = some at x f
 bound_by at for-every x f = every at x f
 
 -- what they spell, and the steps that they take
-connected_spelled : (at : ℕ) (c : Connective) (f g : Claim) (rest : List Item) → mark_item at (mark_of_connective c) ∷ spelled f (spelled g rest) ≡ spelled (connected at c f g) rest
+connected_spelled : (at : ℕ) (c : Connective) (f g : Claim) (rest : List Item)
+    → mark_item at (mark_of_connective c) ∷ spelled f (spelled g rest) ≡ spelled (connected at c f g) rest
 connected_spelled at both-parts f g rest = refl
 connected_spelled at either-part f g rest = refl
 connected_spelled at implied-part f g rest = refl
@@ -187,7 +188,8 @@ module _ (s : Source) (left depth at place : ℕ) (low : 1 ≤ left) (most : lef
       part_fault e h dues =
           opened_fault (mark_of_quantifier q) here dues ∙ ap (λ ds. fault s.sets s.end (ds ++ dues) (left_of s (at + 1))) (variable_part (33 - left) q)
           ∙ ap (fault s.sets s.end (variable ∷ (formula (33 - left + 1) ∷ dues))) there
-          ∙ variables_fault s.sets s.end (x ∷ []) (All-cons (λ y. y.set < s.sets) x [] has (All-nil (λ y. y.set < s.sets))) (formula (33 - left + 1) ∷ dues) (left_of s (at + 2))
+          ∙ variables_fault s.sets s.end (x ∷ []) (All-cons (λ y. y.set < s.sets) x [] has (All-nil (λ y. y.set < s.sets)))
+          (formula (33 - left + 1) ∷ dues) (left_of s (at + 2))
           ∙ inner_faulty (at + 2) e h dues
 
       pub quantified_read : (p b r t : Plan) (next : ℕ) (f : Claim) → depth < length p.bound → take (depth + 1) b.bound ≡ take depth p.bound ++ x.letter ∷ []
@@ -197,7 +199,8 @@ module _ (s : Source) (left depth at place : ℕ) (low : 1 ≤ left) (most : lef
           let bound : List ℕ = take depth p.bound in
           let inside : List ℕ = take (depth + 1) b.bound in
           from_parts p t next (bound_by place q x f)
-          (here ∙ ap (λ xs. mark_item place (mark_of_quantifier q) ∷ xs) (there ∙ ap (λ xs. variable_item x ∷ xs) a.spells) ∙ bound_spelled place q x f (left_of s next))
+          (here ∙ ap (λ xs. mark_item place (mark_of_quantifier q) ∷ xs) (there ∙ ap (λ xs. variable_item x ∷ xs) a.spells)
+          ∙ bound_spelled place q x f (left_of s next))
           (bound_fits s.sets (33 - left) place q x f here_fits has (inner_fits f a.fits))
           (grows_as depth p t _ _ _ _ (bound_steps place q x f) (append-nil (free_of inside f) ∙ ap (λ ls. free_of ls f) is ∙ bound_free bound place q x f)
           (grows_then depth p b t [] (steps_of f ++ quantified place q x) [] (free_of inside f ++ []) (grows_bind depth x.letter p b deep is same)
@@ -210,13 +213,15 @@ module _ (s : Source) (left depth at place : ℕ) (low : 1 ≤ left) (most : lef
   pub atom_read : (p r : Plan) (number places : ℕ) (spots : List Spot) → left_of s at ≡ name_item place number places ∷ left_of s (at + 1)
       → places ≤ 4 → length spots ≡ 4 → at + 1 + places ≤ length s.items.now
       → left_of s (at + 1) ≡ map variable_item (take places spots) ++ left_of s (at + 1 + places) → All (λ x. x.set < s.sets) (take places spots)
-      → Adds p r ((place, place_call number (map (λ x. x.set) (take places spots))) ∷ []) (filter (λ x. not (among x.letter (take depth p.bound))) (take places spots))
+      → Adds p r ((place, place_call number (map (λ x. x.set) (take places spots))) ∷ [])
+      (filter (λ x. not (among x.letter (take depth p.bound))) (take places spots))
       → ReadsClaim s left depth at p r (at + 1 + places) (atom place number (take places spots))
   atom_read p r number places spots here few four within there fits w =
       let xs : List Spot = take places spots in
       let many : length xs ≡ places = length-take-le places spots (omega (arith, few, four)) in
       from_parts p r (at + 1 + places) (atom place number xs)
-      (here ∙ ap (λ ys. name_item place number places ∷ ys) there ∙ ap (λ k. name_item place number k ∷ (map variable_item xs ++ left_of s (at + 1 + places))) (sym many))
+      (here ∙ ap (λ ys. name_item place number places ∷ ys) there
+      ∙ ap (λ k. name_item place number k ∷ (map variable_item xs ++ left_of s (at + 1 + places))) (sym many))
       (here_fits, fits) (grows_adds depth p r _ _ w) within (omega arith) (omega (arith, w.0.1)) w.0.3
 
 -- what an opening of this form stands for

@@ -15,8 +15,8 @@ pub record Grows (depth : ℕ) (p p' : Plan) (more : List (ℕ × Call)) (freed 
   pub bound : take depth p'.bound ≡ take depth p.bound
   pub long : length p'.steps.now ≡ length p.steps.now
 
-pub grows_then : (depth : ℕ) (p q r : Plan) (more more' : List (ℕ × Call)) (freed freed' : List Spot) → Grows depth p q more freed → Grows depth q r more' freed'
-    → Grows depth p r (more ++ more') (freed ++ freed')
+pub grows_then : (depth : ℕ) (p q r : Plan) (more more' : List (ℕ × Call)) (freed freed' : List Spot) → Grows depth p q more freed
+    → Grows depth q r more' freed' → Grows depth p r (more ++ more') (freed ++ freed')
 grows_then depth p q r more more' freed freed' a b = record {
   steps = b.steps ∙ ap (λ xs. xs ++ more') a.steps ∙ append_assoc (written p) more more';
   notes = λ spots given. subst (Notes r.free) (append_assoc spots freed freed') (b.notes (spots ++ freed) (a.notes spots given));

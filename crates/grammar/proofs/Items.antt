@@ -1,5 +1,5 @@
 -- What is known of the items of a text: no predicate has more than four places, and there are no more items than bytes.
-use Rattle.std.proofs.Common.{◌≡◌, ℕ, zero, suc, ◌+◌, ◌<◌, ◌≤◌, Bool, true, false, cond, ◌&&◌, List, [], ◌∷◌, length, drop, get_or, Some, None, Option, refl, ap, ◌∙◌, subst, ⊎_elim, inl, inr, arith}
+use Rattle.std.proofs.Common.{◌≡◌, ℕ, zero, suc, ◌+◌, ◌≤◌, Bool, true, false, cond, ◌&&◌, List, [], ◌∷◌, length, drop, get_or, Some, None, Option, refl, ap, subst, ⊎_elim, arith}
 use Rattle.std.proofs.lemmas.Bool.{cases_lt}
 use Rattle.std.specs.Char.{is_ascii_alphabetic}
 use Rattle.words.specs.Automata.{Automaton}
@@ -44,7 +44,8 @@ module _ (numbered : List ℕ → Option ℕ) (a : ℕ → Automaton) (four : (p
   sense_few : (seen bytes : List ℕ) → few_places (sense_of numbered a seen bytes)
   sense_few seen [] = tt
   sense_few seen (b ∷ []) = either_few (is_ascii_alphabetic b) (Variable b (set_of b seen)) (sense_of_mark (mark_of b)) tt (mark_few (mark_of b))
-  sense_few seen (b ∷ (c ∷ bs)) = either_few (is_name (b ∷ (c ∷ bs))) (sense_of_number a (numbered (b ∷ (c ∷ bs)))) Wrong (number_few (numbered (b ∷ (c ∷ bs)))) tt
+  sense_few seen (b ∷ (c ∷ bs)) =
+      either_few (is_name (b ∷ (c ∷ bs))) (sense_of_number a (numbered (b ∷ (c ∷ bs)))) Wrong (number_few (numbered (b ∷ (c ∷ bs)))) tt
 
   nothing : Item
   nothing = record { place = 0; sense = Wrong }
@@ -77,7 +78,8 @@ module _ (numbered : List ℕ → Option ℕ) (a : ℕ → Automaton) (four : (p
       let few : length rest ≤ length bs = pieces_length (at + 1) bs in
       let all : length (pieces at (b ∷ bs)) ≤ n =
       either_length (blank b) rest (cond (is_ascii_alphabetic b && on_letter bs) (longer at b rest) ((at, b ∷ []) ∷ rest)) n (omega (arith, few))
-      (either_length (is_ascii_alphabetic b && on_letter bs) (longer at b rest) ((at, b ∷ []) ∷ rest) n (longer_length at b rest (length bs) few) (omega (arith, few))) in
+      (either_length (is_ascii_alphabetic b && on_letter bs) (longer at b rest) ((at, b ∷ []) ∷ rest) n
+      (longer_length at b rest (length bs) few) (omega (arith, few))) in
       omega (arith, all)
 
   from_length : (seen : List ℕ) (ps : List (ℕ × List ℕ)) → length (items_from numbered a seen ps) ≡ length ps

@@ -1,5 +1,5 @@
 -- Where positions first stand free, when one variable more is looked at.
-use Rattle.std.proofs.Common.{◌≡◌, ℕ, ◌<◌, Bool, true, false, cond, not, ◌&&◌, eqb, List, [], ◌∷◌, ◌++◌, length, get_or, filter, Some, None, Option, is_some, sym, refl, ap, ◌∙◌, subst, inl, inr, ⊎_elim, arith, slice_set}
+use Rattle.std.proofs.Common.{◌≡◌, ℕ, ◌<◌, Bool, true, false, cond, not, ◌&&◌, eqb, List, [], ◌∷◌, ◌++◌, length, get_or, filter, Some, None, Option, is_some, sym, refl, ap, ◌∙◌, subst, ⊎_elim, slice_set}
 use Rattle.std.proofs.lemmas.Bool.{cases_eq, eq-eqb, ne_eqb, cond-true, cond-false, false≢true}
 use Rattle.std.proofs.lemmas.List.{get_or-set_same, get_or-set_other, append-nil}
 use Rattle.grammar.specs.declared.step.Spot.{Spot}
@@ -53,12 +53,15 @@ module _ (noted : List (Option ℕ)) (spots : List Spot) (notes : Notes noted sp
   other_set x i other = ap (λ b. cond (b && is_position x) (Some x.place) None) (ne_eqb x.set i other)
 
   same_set : (x : Spot) → is_position x ≡ true → first_free x.set (x ∷ []) ≡ Some x.place
-  same_set x position = ap (λ b. cond (b && is_position x) (Some x.place) None) (eq-eqb x.set x.set refl) ∙ cond-true (is_position x) (Some x.place) None position
+  same_set x position =
+      ap (λ b. cond (b && is_position x) (Some x.place) None) (eq-eqb x.set x.set refl)
+      ∙ cond-true (is_position x) (Some x.place) None position
 
   pub notes_again : (x : Spot) (set : ℕ) → set ≡ x.set → is_some (get_or noted set None) ≡ true → Notes noted (spots ++ x ∷ [])
   notes_again x set at some i low =
       ⊎_elim (λ e.
-      let there : is_some (first_free i spots) ≡ true = subst (λ r. is_some r ≡ true) (notes i low) (subst (λ k. is_some (get_or noted k None) ≡ true) (at ∙ e) some) in
+      let there : is_some (first_free i spots) ≡ true =
+      subst (λ r. is_some r ≡ true) (notes i low) (subst (λ k. is_some (get_or noted k None) ≡ true) (at ∙ e) some) in
       notes i low ∙ sym (first_append i spots (x ∷ []) ∙ first_some (first_free i spots) (first_free i (x ∷ [])) there))
       (λ other. kept x i low (other_set x i other)) (cases_eq x.set i)
 
@@ -66,9 +69,12 @@ module _ (noted : List (Option ℕ)) (spots : List Spot) (notes : Notes noted sp
       → Notes (slice_set noted set (Some x.place)) (spots ++ x ∷ [])
   notes_first x set at position within none i low =
       ⊎_elim (λ e.
-      let nothing : first_free i spots ≡ None = is_none_of (first_free i spots) (subst (λ r. is_some r ≡ false) (notes i low) (subst (λ k. is_some (get_or noted k None) ≡ false) (at ∙ e) none)) in
+      let nothing : first_free i spots ≡ None =
+      is_none_of (first_free i spots)
+      (subst (λ r. is_some r ≡ false) (notes i low) (subst (λ k. is_some (get_or noted k None) ≡ false) (at ∙ e) none)) in
       subst (λ k. get_or (slice_set noted set (Some x.place)) k None ≡ Some x.place) (at ∙ e) (get_or-set_same noted set (Some x.place) None within)
-      ∙ sym (first_append i spots (x ∷ []) ∙ ap (λ r. first_of r (first_free i (x ∷ []))) nothing ∙ subst (λ k. first_free k (x ∷ []) ≡ Some x.place) e (same_set x position)))
+      ∙ sym (first_append i spots (x ∷ []) ∙ ap (λ r. first_of r (first_free i (x ∷ []))) nothing
+      ∙ subst (λ k. first_free k (x ∷ []) ≡ Some x.place) e (same_set x position)))
       (λ other. get_or-set_other noted set i (Some x.place) None (λ e. other (sym (e ∙ at))) ∙ kept x i low (other_set x i other)) (cases_eq x.set i)
 
 -- a variable counts where its letter is not bound

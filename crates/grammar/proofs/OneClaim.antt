@@ -1,18 +1,12 @@
 -- Items spell at most one claim.
-use Rattle.std.proofs.Common.{◌≡◌, ℕ, zero, suc, ◌+◌, ◌<◌, ◌≤◌, Bool, true, false, cond, List, [], ◌∷◌, ◌++◌, map, length, get_or, drop, replicate, Option, Some, None, sym, refl, ap, ◌∙◌, arith, ltb}
-use Rattle.std.specs.Prelude.{All}
-use Rattle.std.proofs.lemmas.Bool.{le-ltb, ltb-false, lt-ltb, ltb-true, cond-true, cond-false}
-use Rattle.std.proofs.lemmas.List.Elements.{All-nil, All-cons, All-head, All-tail}
+use Rattle.std.proofs.Common.{◌≡◌, ℕ, List, [], ◌∷◌, ◌++◌, map, length, get_or, drop, sym, refl, ap, ◌∙◌, arith}
 use Rattle.tokens.specs.declared.item.Item.{Item}
 use Rattle.tokens.specs.declared.item.Sense.{Sense}
 use Rattle.tokens.specs.declared.item.Sense.TheVariants.{Mark as mark, Predicate, Unknown, Variable, Wrong}
 use Rattle.tokens.specs.declared.mark.Mark.{Mark}
 use Rattle.tokens.specs.declared.mark.Mark.TheVariants.{Not, Both, Either, Implies, Some as some-mark, Every}
-use Rattle.grammar.specs.declared.flaw.Flaw.{Flaw}
-use Rattle.grammar.specs.declared.flaw.Flaw.TheVariants.{TooDeep, UnknownName, TooManyVariables}
 use Rattle.grammar.specs.declared.step.Spot.{Spot}
-use Rattle.grammar.specs.Claims.{Claim, atom, denial, and, or, implies, some, every, spelled, Fits, mark_item, name_item, variable_item}
-use Rattle.grammar.specs.Faults.{Due, formula, variable, as_formula, as_variable, as_more, flaw_at, parts, opened, due_after, or_later, fault}
+use Rattle.grammar.specs.Claims.{Claim, atom, denial, and, or, implies, some, every, spelled, variable_item}
 
 same_head : {X : Type 0} {x y : X} {xs ys : List X} → x ∷ xs ≡ y ∷ ys → x ≡ y
 same_head {x = x} e = ap (λ l. get_or l 0 x) e
@@ -105,4 +99,3 @@ same_claim (every at x f) g r s e = let k : ◌≡◌ {A = ℕ} 6 (kind (spelled
 
 pub one_claim : (items : List Item) (f g : Claim) → items ≡ spelled f [] → items ≡ spelled g [] → f ≡ g
 one_claim items f g e e' = (same_claim f g [] [] (sym e ∙ e')).0
-

@@ -1,34 +1,25 @@
 -- What reading the items comes to for the text.
-use Rattle.std.proofs.Common.{◌≡◌, ℕ, ◌+◌, ◌*◌, ◌<◌, ◌≤◌, nat_lt, cond, min, List, [], ◌∷◌, length, take, map, Some, None, Option, Ok, Err, Result, sym, refl, ap, ◌∙◌, subst, arith}
-use Rattle.std.proofs.lemmas.Bool.{cond-true, cond-false, le-ltb, lt-ltb}
+use Rattle.std.proofs.Common.{◌≡◌, ℕ, ◌+◌, ◌*◌, ◌≤◌, nat_lt, List, [], ◌∷◌, length, take, map, Some, None, Option, Ok, Err, Result, sym, ap, ◌∙◌, subst}
+use Rattle.std.proofs.lemmas.Bool.{cond-false, le-ltb}
 use Rattle.words.specs.Automata.{Automaton}
 use Rattle.tokens.specs.Items.{items_of}
 use Rattle.tokens.specs.declared.item.Item.{Item}
-use Rattle.grammar.specs.declared.flaw.Flaw.{Flaw}
-use Rattle.grammar.specs.declared.flaw.Flaw.TheVariants.{NoRoom, TooLong}
 use Rattle.grammar.specs.declared.flaw.Flawed.{Flawed}
 use Rattle.grammar.specs.declared.step.Step.{Step}
-use Rattle.grammar.specs.Claims.{Claim, spelled, Fits}
+use Rattle.grammar.specs.Claims.{Claim, Fits}
 use Rattle.grammar.specs.Faults.{formula, fault}
-use Rattle.grammar.specs.Planning.{most, ReadsAs, text_fault, Plans}
+use Rattle.grammar.specs.Planning.{most, text_fault, Plans}
 use Rattle.grammar.specs.Steps.{step_of, all_steps}
 use Rattle.grammar.specs.Reading.{ReadsAll}
 use Rattle.grammar.proofs.Spelling.{claim_fault}
 
 module _ (numbered : List ℕ → Option ℕ) (a : ℕ → Automaton) (sets : ℕ) (text : List ℕ) (room : ℕ) where
   -- a text of the right length, with room for its steps, has the fault of its items
-  fault_of_items : length text ≤ 1024 → 3 * length text + 16 ≤ room → text_fault numbered a sets room text ≡ fault (most sets) (length text) (formula 0 ∷ []) (items_of numbered a text)
+  fault_of_items : length text ≤ 1024 → 3 * length text + 16 ≤ room
+      → text_fault numbered a sets room text ≡ fault (most sets) (length text) (formula 0 ∷ []) (items_of numbered a text)
   fault_of_items short wide =
       cond-false (nat_lt 1024 (length text)) _ _ (le-ltb 1024 (length text) short)
       ∙ cond-false (nat_lt room (3 * length text + 16)) _ _ (le-ltb room (3 * length text + 16) wide)
-
-  pub too_long : 1024 < length text → text_fault numbered a sets room text ≡ Some (TooLong, 0)
-  too_long long = cond-true (nat_lt 1024 (length text)) _ _ (lt-ltb 1024 (length text) long)
-
-  pub no_room : length text ≤ 1024 → room < 3 * length text + 16 → text_fault numbered a sets room text ≡ Some (NoRoom, 0)
-  no_room short few =
-      cond-false (nat_lt 1024 (length text)) _ _ (le-ltb 1024 (length text) short)
-      ∙ cond-true (nat_lt room (3 * length text + 16)) _ _ (lt-ltb room (3 * length text + 16) few)
 
   module _ (n : ℕ) (over : n ≡ most sets) (items : List Item) (is : items ≡ items_of numbered a text) (short : length text ≤ 1024)
       (wide : 3 * length text + 16 ≤ room)

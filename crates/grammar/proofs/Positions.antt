@@ -1,13 +1,12 @@
 -- The whole text: one claim, and then the steps of its free positions.
-use Rattle.std.proofs.Common.{◌≡◌, ℕ, zero, suc, ◌+◌, ◌-◌, ◌*◌, ◌<◌, ◌≤◌, List, [], ◌∷◌, ◌++◌, length, take, map, Some, None, Option, get_or, sym, refl, ap, ◌∙◌, subst, arith}
+use Rattle.std.proofs.Common.{◌≡◌, ℕ, suc, ◌+◌, ◌*◌, ◌<◌, ◌≤◌, [], ◌∷◌, ◌++◌, length, take, map, Some, None, Option, get_or, sym, ap, ◌∙◌, subst, arith}
 use Rattle.std.proofs.lemmas.List.{append_assoc, append-nil}
 use Rattle.grammar.specs.declared.flaw.Flawed.{Flawed}
 use Rattle.grammar.specs.declared.plan.Plan.{Plan}
 use Rattle.grammar.specs.declared.source.Source.{Source}
-use Rattle.grammar.specs.declared.step.Step.{Step}
 use Rattle.grammar.specs.Claims.{Claim, spelled, Fits, free as free_of}
 use Rattle.grammar.specs.Faults.{formula, fault}
-use Rattle.grammar.specs.Steps.{Call, step_of, steps as steps_of, first_free, alone, alone_at, positions, all_steps}
+use Rattle.grammar.specs.Steps.{step_of, steps as steps_of, first_free, alone, alone_at, positions}
 use Rattle.grammar.specs.Sources.{left_of}
 use Rattle.grammar.specs.Written.{written, Notes, Writes}
 use Rattle.grammar.specs.Reading.{ReadsClaim}

@@ -1,5 +1,5 @@
 -- The laws of texts, put together.
-use Rattle.std.proofs.Common.{◌≡◌, ℕ, List, [], ◌∷◌, None, ap, ◌∙◌}
+use Rattle.std.proofs.Common.{[], ◌∷◌, ap, ◌∙◌}
 use Rattle.grammar.specs.Faults.{formula, fault}
 use Rattle.grammar.specs.TextLaws.{TextLaws}
 use Rattle.grammar.proofs.Complete.{spells_claim}

@@ -1,12 +1,12 @@
 -- The fault of a text: the first of its items that cannot stand where it does decides.
-use Rattle.std.specs.Prelude.{ℕ, zero, suc, ◌+◌, cond, nat_lt, List, [], ◌∷◌, ◌++◌, Some, None, Option, replicate, length}
+use Rattle.std.specs.Prelude.{ℕ, ◌+◌, cond, nat_lt, List, [], ◌∷◌, ◌++◌, Some, None, Option, replicate}
 use Rattle.tokens.specs.declared.item.Item.{Item}
 use Rattle.tokens.specs.declared.item.Sense.{Sense}
 use Rattle.tokens.specs.declared.item.Sense.TheVariants.{Mark, Predicate, Unknown, Variable, Wrong}
 use Rattle.tokens.specs.declared.mark.Mark.{Mark as MarkKind}
 use Rattle.tokens.specs.declared.mark.Mark.TheVariants.{Not, Both, Either, Implies, Some as some-mark, Every}
 use Rattle.grammar.specs.declared.flaw.Flaw.{Flaw}
-use Rattle.grammar.specs.declared.flaw.Flaw.TheVariants.{NoRoom, TooLong, NoToken, Unfinished, TooDeep, NotDue, UnknownName, TooManyVariables}
+use Rattle.grammar.specs.declared.flaw.Flaw.TheVariants.{NoToken, Unfinished, TooDeep, NotDue, UnknownName, TooManyVariables}
 
 -- what is due: a formula that stands inside so many others, or a variable
 pub data Due : Type 0 where

@@ -12,7 +12,7 @@ use Rattle.grammar.specs.Steps.{steps as steps_of, step_of, all_steps}
 use Rattle.grammar.specs.Sources.{left_of, Faulty}
 use Rattle.grammar.specs.Written.{written, Notes}
 
--- Each item that was read took at most three steps, and there are three for each item, and 16 more.
+-- Each item that was read took at most three steps, and the memory has room for three for each item, and for 16 more.
 abbrev pub Room : Source → Plan → ℕ → Type 0
 Room s p at = (at ≤ length s.items.now) × (p.used ≤ 3 * at) × (3 * length s.items.now + 16 ≤ length p.steps.now) × (p.used ≤ length p.steps.now)
 

@@ -1,8 +1,8 @@
 -- What the functions over a list of items answer: the item that is there, or the fault of all that is due.
-use Rattle.std.specs.Prelude.{◌≡◌, ℕ, ◌+◌, ◌-◌, ◌<◌, ◌≤◌, List, [], ◌∷◌, ◌++◌, drop, take, length, map, All, Some, None, Option, Ok, Err, Result, replicate}
+use Rattle.std.specs.Prelude.{◌≡◌, ℕ, ◌+◌, ◌-◌, ◌<◌, ◌≤◌, List, [], ◌∷◌, ◌++◌, drop, take, length, map, All, Some, Ok, Err, Result, replicate}
 use Rattle.tokens.specs.declared.item.Item.{Item}
 use Rattle.tokens.specs.declared.item.Sense.{Sense}
-use Rattle.tokens.specs.declared.item.Sense.TheVariants.{Mark, Predicate, Unknown, Variable, Wrong}
+use Rattle.tokens.specs.declared.item.Sense.TheVariants.{Mark, Predicate}
 use Rattle.tokens.specs.declared.mark.Mark.{Mark as MarkKind}
 use Rattle.tokens.specs.declared.mark.Mark.TheVariants.{Not, Both, Either, Implies, Some as some-mark, Every}
 use Rattle.grammar.specs.declared.flaw.Flaw.TheVariants.{Unfinished}

@@ -16,7 +16,7 @@ written p = map step_of (take p.used p.steps.now)
 abbrev pub Notes : List (Option ℕ) → List Spot → Type 0
 Notes noted spots = (i : ℕ) → i < 8 → slice_index_or noted i None ≡ first_free i spots
 
--- steps are added, and as many numbers of the memory used
+-- steps are added, each in the next place of the memory, whose length stays
 abbrev pub Longer : Plan → Plan → List (ℕ × Call) → Type 0
 Longer p p' more =
     (written p' ≡ written p ++ more) × (p'.used ≡ p.used + length more) × (length p'.steps.now ≡ length p.steps.now)

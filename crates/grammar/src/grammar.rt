@@ -1,5 +1,5 @@
 //! The recursive reading of the prefix text.
-ghost use Rattle.std.specs.Prelude.{◌≡◌, ℕ, ◌+◌, ◌-◌, ◌*◌, ◌<◌, ◌≤◌, length};
+ghost use Rattle.std.specs.Prelude.{◌≡◌, ◌+◌, ◌≤◌};
 ghost use Rattle.grammar.specs.Reading.{Reads, Room};
 ghost use Rattle.grammar.specs.Sources.{FewPlaces};
 
@@ -8,9 +8,9 @@ use crate::plan::Plan;
 use crate::source::{Opened, Opening, Source};
 use crate::step::Build;
 
-/// Reads the formula that is due here, where `left` formulas more may be open at once and `depth` letters are bound.
-/// Plans its steps, and answers where the item behind it is. Each call spends one of the formulas that may be open, so
-/// that a text cannot use up the stack.
+// Reads the formula that is due here, where `left` formulas more may be open at once and `depth` letters are bound.
+// Plans its steps, and answers where the item behind it is. Each call spends one of the formulas that may be open, so
+// that a text cannot use up the stack.
 pub(crate) fn read_formula(
     source: &Source,
     plan: &mut Plan,

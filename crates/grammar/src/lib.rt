@@ -13,3 +13,6 @@ pub use flaw::{Flaw, Flawed};
 pub use laws::laws_of_texts;
 pub use planning::plan_text;
 pub use step::{Build, Spot, Step};
+
+#[cfg(test)]
+mod tests;

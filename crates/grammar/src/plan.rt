@@ -1,11 +1,12 @@
 //! The steps that have been planned, and what must be known of the variables so far.
-ghost use Rattle.std.specs.Prelude.{◌≡◌, ℕ, ◌+◌, ◌-◌, ◌*◌, ◌<◌, ◌≤◌, List, [], ◌∷◌, ◌++◌, drop, take, length, map, All, slice_index, cond, not, filter};
+ghost use Rattle.std.specs.Prelude.{◌≡◌, ◌+◌, ◌<◌, ◌≤◌, List, [], ◌∷◌, ◌++◌, take, length, map, All, not, filter};
 ghost use Rattle.grammar.specs.Steps.{call_of, hiding, place as place_call};
-ghost use Rattle.grammar.specs.Claims.{among, is_position};
-ghost use Rattle.grammar.specs.Written.{written, Notes, Adds, Writes, between, joined_by, quantified};
+ghost use Rattle.grammar.specs.Claims.{among};
+ghost use Rattle.grammar.specs.Written.{Notes, Adds, Writes, between, joined_by, quantified};
 
 use crate::source::{Connective, Quantifier};
 use crate::step::{Build, Spot, Step};
+use books::Predicate;
 
 /// The steps so far, at the front of lent memory; the letters that are bound around what is read; and for each set
 /// where its letter first stood free as a position.
@@ -103,7 +104,7 @@ impl Plan<'_> {
         self.bound[depth] = letter;
     }
 
-    // Notes a variable of a predicate, where so many letters are bound.
+    // Notes the place of a variable, where so many letters are bound, if it is the first of a free position.
     fn note(&mut self, spot: Spot, depth: usize)
         requires small { spot.set < 8 }
         requires deep { depth ≤ 33 }
@@ -118,7 +119,7 @@ impl Plan<'_> {
     }
 
     // The step of a predicate on its variables.
-    pub(crate) fn place(&mut self, place: u16, predicate: u8, spots: &[Spot], depth: usize)
+    pub(crate) fn place(&mut self, place: u16, predicate: Predicate, spots: &[Spot], depth: usize)
         requires few { length spots.now ≤ 4 }
         requires small { All (λ x. x.set < 8) spots.now }
         requires deep { depth ≤ 33 }
@@ -131,6 +132,13 @@ impl Plan<'_> {
             sets[i] = spot.set as u8;
             self.note(*spot, depth);
         }
-        self.push(place, Build::Place { predicate, sets, places: spots.len() as u8 });
+        self.push(
+            place,
+            Build::Place {
+                predicate,
+                sets,
+                places: spots.len() as u8,
+            },
+        );
     }
 }

@@ -1,10 +1,11 @@
 //! The items of a text, and what may stand where.
-ghost use Rattle.std.specs.Prelude.{◌≡◌, ℕ, ◌+◌, ◌-◌, ◌*◌, ◌<◌, ◌≤◌, List, ◌∷◌, ◌++◌, drop, take, length, map, All, slice_index};
+ghost use Rattle.std.specs.Prelude.{◌≡◌, ◌≤◌, length};
 ghost use Rattle.tokens.specs.declared.item.Sense.TheVariants.{Mark as MarkSense};
-ghost use Rattle.grammar.specs.Sources.{sense_of_opening, FindsItem, FindsVariable, FindsVariables, Opens, Ends, FewPlaces};
+ghost use Rattle.grammar.specs.Sources.{sense_of_opening, FindsItem, FindsVariable, FindsVariables, Opens, Ends};
 
 use crate::flaw::{Flaw, Flawed};
 use crate::step::Spot;
+use books::Predicate;
 use tokens::{Item, Mark, Sense};
 
 /// A formula of two parts.
@@ -28,7 +29,7 @@ pub(crate) enum Opening {
     Denial,
     Connective(Connective),
     Quantifier(Quantifier),
-    Atom { number: u8, places: u8 },
+    Atom { number: Predicate, places: u8 },
 }
 
 /// The beginning of a formula, with the place of its mark or name.

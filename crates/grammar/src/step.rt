@@ -1,6 +1,5 @@
 //! The steps that build a formula.
 use books::Predicate;
-use tokens::Item;
 
 /// A building call of a tray. `Place` lists its sets at the front, as many as the predicate has places.
 #[derive(Clone, Copy, PartialEq, Eq, Debug)]

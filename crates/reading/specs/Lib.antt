@@ -5,3 +5,4 @@ pub mod Building
 pub mod Stepping
 pub mod Reading
 pub mod MeaningLaws
+pub mod Judging

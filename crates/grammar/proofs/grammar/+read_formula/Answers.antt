@@ -13,9 +13,11 @@ returns-in_err-next-in-Denial-clause-reads t c =
     let begun = c.in_ok-place.ensures in
     let given = err_from_is_err_and c.from_residual-in_err-next-in-Denial.result c.from_residual-in_err-next-in-Denial.ensures.1 in
     let fails = c.in_err-next-in-Denial.ensures.reads in
-    rw (given.1, given.2)
-    (denial_fault s c.args.left c.args.depth at o.place begun.1 (omega (arith, c.requires.nesting)) (opened_as s at o.place o.opening _ c.in-Denial.is begun.2)
-    c.in_err-next-in-Denial.field-0.0 fails.0, fails.1)
+    rw (given.1, given.2) (
+      denial_fault s c.args.left c.args.depth at o.place begun.1 (omega (arith, c.requires.nesting)) (opened_as s at o.place o.opening _ c.in-Denial.is begun.2)
+          c.in_err-next-in-Denial.field-0.0 fails.0,
+      fails.1,
+    )
 
 pub returns-in_ok-next-in-Denial-clause-reads : goal.returns-in_ok-next-in-Denial-clause-reads
 returns-in_ok-next-in-Denial-clause-reads t c =
@@ -23,10 +25,11 @@ returns-in_ok-next-in-Denial-clause-reads t c =
     let at = c.args.at in
     let o = c.in_ok-place.field-0 in
     let begun = c.in_ok-place.ensures in
-    let part = c.in_ok-next-in-Denial.ensures.reads in
-    (denial o.place part.0,
-    denial_read s c.args.left c.args.depth at o.place begun.1 (omega (arith, c.requires.nesting)) (opened_as s at o.place o.opening _ c.in-Denial.is begun.2)
-    c.args.plan.now c.read_formula.new.plan c.push.new.self c.in_ok-next-in-Denial.next part.0 part.1 c.push.ensures.writes)
+    let part = c.in_ok-next-in-Denial.ensures.reads in (
+      denial o.place part.0,
+      denial_read s c.args.left c.args.depth at o.place begun.1 (omega (arith, c.requires.nesting)) (opened_as s at o.place o.opening _ c.in-Denial.is begun.2)
+          c.args.plan.now c.read_formula.new.plan c.push.new.self c.in_ok-next-in-Denial.next part.0 part.1 c.push.ensures.writes,
+    )
 
 pub returns-in_err-middle-in-Connective-clause-reads : goal.returns-in_err-middle-in-Connective-clause-reads
 returns-in_err-middle-in-Connective-clause-reads t c =
@@ -36,9 +39,11 @@ returns-in_err-middle-in-Connective-clause-reads t c =
     let begun = c.in_ok-place.ensures in
     let given = err_from_is_err_and c.from_residual-in_err-middle-in-Connective.result c.from_residual-in_err-middle-in-Connective.ensures.1 in
     let fails = c.in_err-middle-in-Connective.ensures.reads in
-    rw (given.1, given.2)
-    (left_fault s c.args.left c.args.depth at o.place begun.1 (omega (arith, c.requires.nesting)) c.in-Connective.connective
-    (opened_as s at o.place o.opening _ c.in-Connective.is begun.2) c.in_err-middle-in-Connective.field-0.0 fails.0, fails.1)
+    rw (given.1, given.2) (
+      left_fault s c.args.left c.args.depth at o.place begun.1 (omega (arith, c.requires.nesting)) c.in-Connective.connective
+          (opened_as s at o.place o.opening _ c.in-Connective.is begun.2) c.in_err-middle-in-Connective.field-0.0 fails.0,
+      fails.1,
+    )
 
 pub returns-in_err-next-in-Connective-clause-reads : goal.returns-in_err-next-in-Connective-clause-reads
 returns-in_err-next-in-Connective-clause-reads t c =
@@ -49,11 +54,13 @@ returns-in_err-next-in-Connective-clause-reads t c =
     let first = c.in_ok-middle-in-Connective.ensures.reads in
     let given = err_from_is_err_and c.from_residual-in_err-next-in-Connective.result c.from_residual-in_err-next-in-Connective.ensures.1 in
     let fails = c.in_err-next-in-Connective.ensures.reads in
-    rw (given.1, given.2)
-    (right_fault s c.args.left c.args.depth at o.place begun.1 (omega (arith, c.requires.nesting)) c.in-Connective.connective
-    (opened_as s at o.place o.opening _ c.in-Connective.is begun.2) c.args.plan.now c.read_formula-in-Connective.new.plan c.in_ok-middle-in-Connective.middle
-    first.0 c.in_err-next-in-Connective.field-0.0 first.1 fails.0,
-    fails.1 ∙ c.begin_right.ensures.writes.0.2 ∙ first.1.room.3)
+    rw (given.1, given.2) (
+      right_fault s c.args.left c.args.depth at o.place begun.1 (omega (arith, c.requires.nesting)) c.in-Connective.connective
+          (opened_as s at o.place o.opening _ c.in-Connective.is begun.2) c.args.plan.now c.read_formula-in-Connective.new.plan
+          c.in_ok-middle-in-Connective.middle
+          first.0 c.in_err-next-in-Connective.field-0.0 first.1 fails.0,
+      fails.1 ∙ c.begin_right.ensures.writes.0.2 ∙ first.1.room.3,
+    )
 
 pub returns-in_ok-next-in-Connective-clause-reads : goal.returns-in_ok-next-in-Connective-clause-reads
 returns-in_ok-next-in-Connective-clause-reads t c =
@@ -62,12 +69,13 @@ returns-in_ok-next-in-Connective-clause-reads t c =
     let o = c.in_ok-place.field-0 in
     let begun = c.in_ok-place.ensures in
     let first = c.in_ok-middle-in-Connective.ensures.reads in
-    let second = c.in_ok-next-in-Connective.ensures.reads in
-    (connected o.place c.in-Connective.connective first.0 second.0,
-    connected_read s c.args.left c.args.depth at o.place begun.1 (omega (arith, c.requires.nesting)) c.in-Connective.connective
-    (opened_as s at o.place o.opening _ c.in-Connective.is begun.2) c.args.plan.now c.read_formula-in-Connective.new.plan c.begin_right.new.self
-    c.read_formula-in-Connective-2.new.plan c.join.new.self c.in_ok-middle-in-Connective.middle c.in_ok-next-in-Connective.next first.0 second.0 first.1
-    c.begin_right.ensures.writes second.1 c.join.ensures.writes)
+    let second = c.in_ok-next-in-Connective.ensures.reads in (
+      connected o.place c.in-Connective.connective first.0 second.0,
+      connected_read s c.args.left c.args.depth at o.place begun.1 (omega (arith, c.requires.nesting)) c.in-Connective.connective
+          (opened_as s at o.place o.opening _ c.in-Connective.is begun.2) c.args.plan.now c.read_formula-in-Connective.new.plan c.begin_right.new.self
+          c.read_formula-in-Connective-2.new.plan c.join.new.self c.in_ok-middle-in-Connective.middle c.in_ok-next-in-Connective.next first.0 second.0 first.1
+          c.begin_right.ensures.writes second.1 c.join.ensures.writes,
+    )
 
 pub returns-in_err-next-in-Quantifier-clause-reads : goal.returns-in_err-next-in-Quantifier-clause-reads
 returns-in_err-next-in-Quantifier-clause-reads t c =
@@ -79,10 +87,11 @@ returns-in_err-next-in-Quantifier-clause-reads t c =
     let found = c.in_ok-variable-in-Quantifier.ensures in
     let given = err_from_is_err_and c.from_residual-in_err-next-in-Quantifier.result c.from_residual-in_err-next-in-Quantifier.ensures.1 in
     let fails = c.in_err-next-in-Quantifier.ensures.reads in
-    rw (given.1, given.2)
-    (part_fault s c.args.left c.args.depth at o.place begun.1 (omega (arith, c.requires.nesting)) c.in-Quantifier.quantifier x
-    (opened_as s at o.place o.opening _ c.in-Quantifier.is begun.2) (variable_here s at x found.1) found.2 c.in_err-next-in-Quantifier.field-0.0 fails.0,
-    fails.1 ∙ ap (λ m. length m.now) c.bind.ensures.same.1)
+    rw (given.1, given.2) (
+      part_fault s c.args.left c.args.depth at o.place begun.1 (omega (arith, c.requires.nesting)) c.in-Quantifier.quantifier x
+          (opened_as s at o.place o.opening _ c.in-Quantifier.is begun.2) (variable_here s at x found.1) found.2 c.in_err-next-in-Quantifier.field-0.0 fails.0,
+      fails.1 ∙ ap (λ m. length m.now) c.bind.ensures.same.1,
+    )
 
 pub returns-in_ok-next-in-Quantifier-clause-reads : goal.returns-in_ok-next-in-Quantifier-clause-reads
 returns-in_ok-next-in-Quantifier-clause-reads t c =
@@ -92,12 +101,14 @@ returns-in_ok-next-in-Quantifier-clause-reads t c =
     let begun = c.in_ok-place.ensures in
     let x = c.in_ok-variable-in-Quantifier.variable in
     let found = c.in_ok-variable-in-Quantifier.ensures in
-    let part = c.in_ok-next-in-Quantifier.ensures.reads in
-    (bound_by o.place c.in-Quantifier.quantifier x part.0,
-    quantified_read s c.args.left c.args.depth at o.place begun.1 (omega (arith, c.requires.nesting)) c.in-Quantifier.quantifier x
-    (opened_as s at o.place o.opening _ c.in-Quantifier.is begun.2) (variable_here s at x found.1) found.2 c.args.plan.now c.bind.new.self
-    c.read_formula-in-Quantifier.new.plan c.quantify.new.self c.in_ok-next-in-Quantifier.next part.0 c.bind.ensures.deep c.bind.ensures.bound c.bind.ensures.same part.1
-    c.quantify.ensures.writes)
+    let part = c.in_ok-next-in-Quantifier.ensures.reads in (
+      bound_by o.place c.in-Quantifier.quantifier x part.0,
+      quantified_read s c.args.left c.args.depth at o.place begun.1 (omega (arith, c.requires.nesting)) c.in-Quantifier.quantifier x
+          (opened_as s at o.place o.opening _ c.in-Quantifier.is begun.2) (variable_here s at x found.1) found.2 c.args.plan.now c.bind.new.self
+          c.read_formula-in-Quantifier.new.plan c.quantify.new.self c.in_ok-next-in-Quantifier.next part.0
+          c.bind.ensures.deep c.bind.ensures.bound c.bind.ensures.same part.1
+          c.quantify.ensures.writes,
+    )
 
 pub returns-in_ok-spots-in-Atom-clause-reads : goal.returns-in_ok-spots-in-Atom-clause-reads
 returns-in_ok-spots-in-Atom-clause-reads t c =
@@ -109,10 +120,12 @@ returns-in_ok-spots-in-Atom-clause-reads t c =
     let many = c.from-many.result in
     let is = c.from-many.ensures in
     let here = opened_as s at o.place o.opening _ c.in-Atom.is begun.2 in
-    let few = c.requires.few at c.in-Atom.number c.in-Atom.places o.place (left_of s (at + 1)) here in
-    (atom o.place c.in-Atom.number (take many c.in_ok-spots-in-Atom.spots),
-    atom_read s c.args.left c.args.depth at o.place begun.1 (omega (arith, c.requires.nesting)) c.args.plan.now c.place.new.self c.in-Atom.number many
-    c.in_ok-spots-in-Atom.spots (subst (λ k. left_of s at ≡ name_item o.place c.in-Atom.number k ∷ left_of s (at + 1)) (sym is) here) (omega (arith, is, few))
-    found.0 (omega (arith, is, found.1))
-    (subst (λ k. left_of s (at + 1) ≡ map variable_item (take k c.in_ok-spots-in-Atom.spots) ++ left_of s (at + 1 + k)) (sym is) found.2)
-    (subst (λ k. All (λ x. x.set < s.sets) (take k c.in_ok-spots-in-Atom.spots)) (sym is) found.3) c.place.ensures.writes)
+    let few = c.requires.few at c.in-Atom.number c.in-Atom.places o.place (left_of s (at + 1)) here in (
+      atom o.place c.in-Atom.number (take many c.in_ok-spots-in-Atom.spots),
+      atom_read s c.args.left c.args.depth at o.place begun.1 (omega (arith, c.requires.nesting)) c.args.plan.now c.place.new.self c.in-Atom.number many
+          c.in_ok-spots-in-Atom.spots (subst (λ k. left_of s at ≡ name_item o.place c.in-Atom.number k ∷ left_of s (at + 1)) (sym is) here)
+          (omega (arith, is, few))
+          found.0 (omega (arith, is, found.1))
+          (subst (λ k. left_of s (at + 1) ≡ map variable_item (take k c.in_ok-spots-in-Atom.spots) ++ left_of s (at + 1 + k)) (sym is) found.2)
+          (subst (λ k. All (λ x. x.set < s.sets) (take k c.in_ok-spots-in-Atom.spots)) (sym is) found.3) c.place.ensures.writes,
+    )

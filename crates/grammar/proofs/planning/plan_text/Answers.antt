@@ -1,4 +1,4 @@
-use Rattle.std.proofs.Common.{◌≡◌, ℕ, List, length, take, refl, subst, sym, ap, ◌∙◌, arith}
+use Rattle.std.proofs.Common.{length, take, refl, subst, sym, ap, arith}
 use Rattle.grammar.specs.Sources.{FewPlaces}
 use Rattle.grammar.proofs.Items.{at_most_four, few_items, items_length}
 use Rattle.grammar.proofs.Planned.{plans}
@@ -16,7 +16,12 @@ plan_items-requires-clause-room g c =
     let book = c.args.book.now in
     let rule = g.B.Book.rule book in
     let four = at_most_four (g.B.Book.size book) (g.B.Book.automaton book) (g.B.Book.holds book) rule in
-    omega (arith, c.if-steps-text.false, ap length c.in-Some.ensures.3, items_length (g.B.NamedBook.numbered book) (g.B.Book.automaton book) four c.args.text.now)
+    omega (
+      arith,
+      c.if-steps-text.false,
+      ap length c.in-Some.ensures.3,
+      items_length (g.B.NamedBook.numbered book) (g.B.Book.automaton book) four c.args.text.now,
+    )
 
 pub returns : goal.returns
 returns g c =

@@ -1,4 +1,4 @@
-use Rattle.std.proofs.Common.{◌≡◌, get_or, take, ap, ◌∙◌, arith}
+use Rattle.std.proofs.Common.{get_or, take, ap, ◌∙◌, arith}
 use Rattle.std.proofs.lemmas.List.{length-set}
 use Rattle.grammar.specs.declared.step.Spot.{Spot}
 use Rattle.grammar.proofs.Placing.{notes_more, sets_more}

@@ -1,4 +1,4 @@
-use Rattle.std.proofs.Common.{◌≡◌, ℕ, ◌∷◌, ◌++◌, not, List, length, map, take, filter}
+use Rattle.std.proofs.Common.{◌≡◌, ◌++◌, not, List, length, map, take, filter}
 use Rattle.grammar.specs.declared.step.Spot.{Spot}
 use Rattle.grammar.specs.Claims.{among}
 use Rattle.grammar.specs.Written.{Notes}
