@@ -36,7 +36,7 @@ joined_above : (f : ℕ → List ℕ) → ((x : ℕ) → All (λ b. 10 < b) (f x
 joined_above f each [] = All-nil (λ b. 10 < b)
 joined_above f each (x ∷ xs) = All-append (λ b. 10 < b) (f x) (flat_map f xs) (each x) (joined_above f each xs)
 
-tested_above : (bs : List ℕ) → list_all (λ b. ltb 10 b) bs ≡ true → All (λ b. 10 < b) bs
+pub tested_above : (bs : List ℕ) → list_all (λ b. ltb 10 b) bs ≡ true → All (λ b. 10 < b) bs
 tested_above [] all = All-nil (λ b. 10 < b)
 tested_above (b ∷ bs) all =
     let both = and_parts (ltb 10 b) (list_all (λ x. ltb 10 x) bs) all in
@@ -59,7 +59,7 @@ following_above (v ∷ vs) =
     let more = flat_map (λ u. codes " " ++ u) (map decimal vs) in
     All-append (λ b. 10 < b) (32 ∷ decimal v) more (All-cons (λ b. 10 < b) 32 (decimal v) (lit≤ tt) (above v)) (following_above vs)
 
-numbers_above : (vs : List ℕ) → All (λ b. 10 < b) (spaced (map decimal vs))
+pub numbers_above : (vs : List ℕ) → All (λ b. 10 < b) (spaced (map decimal vs))
 numbers_above [] = All-nil (λ b. 10 < b)
 numbers_above (v ∷ vs) = All-append (λ b. 10 < b) (decimal v) (flat_map (λ u. codes " " ++ u) (map decimal vs)) (above v) (following_above vs)
 

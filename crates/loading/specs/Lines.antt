@@ -1,5 +1,5 @@
 -- Lines of a saved table as a draft takes them, by the definitions by which save writes them.
-use Rattle.std.specs.Prelude.{◌≡◌, ◌≢◌, ℕ, ◌^◌, ◌≤◌, List, [], ◌∷◌, ◌++◌, map, length, take, decimal, All, Some, None, Option}
+use Rattle.std.specs.Prelude.{◌≡◌, ◌≢◌, ℕ, ◌^◌, ◌<◌, ◌≤◌, Bool, true, false, ◌⊎◌, List, [], ◌∷◌, ◌++◌, map, length, take, decimal, All, Some, None, Option}
 use Rattle.words.specs.Rows.{width}
 use Rattle.saving.specs.TableText.{line_of, names_line}
 
@@ -18,3 +18,11 @@ NamesLine line None = (k : ℕ) → 1 ≤ k → k ≤ 4 → line ≢ names_line 
 abbrev pub RowLine : ℕ → ℕ → List ℕ → Option (List ℕ) → Type 0
 RowLine k s line (Some cells) = (length cells ≡ 17) × IsRow k s line (take (width k) cells)
 RowLine k s line None = (cells : List ℕ) → IsRow k s line cells → ⊥
+
+-- A line lists exactly as many numbers as there is room for, which now has them; or no numbers that it has room for, and they are as
+-- before. There is room for eighteen at most.
+abbrev pub ReadsNumbers : List ℕ → List ℕ → List ℕ → Bool → Type 0
+ReadsNumbers line old new true = (length new ≡ length old) × All (λ v. v ≤ 65535) new × (line ≡ line_of (map decimal new))
+ReadsNumbers line old new false =
+    (new ≡ old)
+    × ((18 < length old) ⊎ ((vs : List ℕ) → length vs ≡ length old → All (λ v. v ≤ 65535) vs → line ≢ line_of (map decimal vs)))

@@ -12,7 +12,8 @@ mod unloaded;
 
 pub use draft::Draft;
 pub use loaded::{Loaded, MOST_CELLS};
-pub use reading::{Fault, load};
+pub use lines::read_numbers;
+pub use reading::{Fault, cut, load};
 pub use seal::Unsealed;
 pub use unloaded::Unloaded;
 

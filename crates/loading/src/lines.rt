@@ -2,7 +2,7 @@
 //! that says the same in another way differs from it, and is refused.
 ghost use Rattle.std.specs.Prelude.{◌≡◌, ℕ, ◌+◌, ◌^◌, ◌≤◌, List, [], ◌∷◌, ◌++◌, length, take, drop, map, decimal, All, Decides, slice_index};
 ghost use Rattle.saving.specs.TableText.{line_of, names_line};
-ghost use Rattle.loading.specs.Lines.{NamesLine, RowLine};
+ghost use Rattle.loading.specs.Lines.{NamesLine, RowLine, ReadsNumbers};
 
 use saving::{write_line, write_names};
 use words::put;
@@ -65,6 +65,24 @@ fn is_line_of(line: &[u8], values: &[u16]) -> bool
         Some(length) => line == &buffer[..length],
         None => false,
     }
+}
+
+/// Reads a line of as many numbers as there is room for, which are eighteen at most: each at most 65,535 and without
+/// needless zeros, one space apart, with byte 10 behind them. Answers whether the line is one; if it is not, nothing is
+/// written.
+pub fn read_numbers(line: &[u8], values: &mut [u16]) -> bool
+    ensures { ReadsNumbers line.now values.old values.new result }
+{
+    if values.len() > MOST_VALUES {
+        return false;
+    }
+    let read = values_in(line);
+    let listed = &read[..values.len()];
+    if !is_line_of(line, listed) {
+        return false;
+    }
+    values.copy_from_slice(listed);
+    true
 }
 
 // How many columns there are over so many places.

@@ -24,8 +24,8 @@ fn line_end(text: &[u8]) -> Option<usize>
     text.iter().position(|byte| *byte == b'\n')
 }
 
-// A text up to its first byte 10, that byte included, and what follows.
-fn cut(text: &[u8]) -> (&[u8], &[u8])
+/// A text up to its first byte 10, that byte included, and what follows.
+pub fn cut(text: &[u8]) -> (&[u8], &[u8])
     ensures { (result.0.now, result.1.now) ≡ cut text.now }
 {
     match line_end(text) {

@@ -1,0 +1,4 @@
+pub mod Questions
+pub mod Lines
+pub mod Judging
+pub mod Opening

@@ -1,0 +1,111 @@
+//! Deciding a claim on a tray of its own.
+ghost use Rattle.std.specs.Prelude.{◌≡◌, ◌≤◌, ◌++◌, IfOk};
+ghost use Rattle.tray.specs.Memory.{SameMemory};
+ghost use Rattle.deciding.specs.Answers.{Answers, Decides, Opened, JudgesText, JudgesOn, JudgesTop};
+ghost use Rattle.deciding.specs.Printed.{answer_text};
+
+use crate::answer::{Answer, Judged, MOST_STATES};
+use crate::printing::put_answer;
+use crate::question::{Question, Unread, read_question};
+use books::NamedBook;
+use calls::{Settings, Work};
+use grammar::{Build, Step};
+use reading::{Fault, Reason, read};
+use std::alloc::AllocError;
+use tray::Tray;
+
+// Memory for 4 sets, a budget of 64 states and a depth of 8 tables: ten slots of 64 rows of 17 numbers.
+const NUMBERS: usize = 10_880;
+
+// A record of each kind for each state, and eight links.
+const STATES: usize = 64;
+
+// Steps for the longest text, of 1,024 bytes.
+const STEPS: usize = 3_088;
+
+// The verdict on the top table, of which there is one.
+fn judge_top(tray: &Tray) -> Result<Judged, Fault>
+    requires { 1 ≤ tray.now.control.count }
+    ensures { JudgesTop tray.now.control tray.now.tables.now result }
+{
+    let mut witness = [0; MOST_STATES];
+    let mut counterexample = [0; MOST_STATES];
+    match tray.judge(&mut witness, &mut counterexample) {
+        Ok(judgement) => Ok(Judged {
+            judgement,
+            witness,
+            counterexample,
+        }),
+        Err(why) => Err(Fault {
+            reason: Reason::Call(why),
+            place: 0,
+        }),
+    }
+}
+
+// Reads the text onto the tray, and judges it.
+fn judge_on<B: NamedBook>(book: &B, text: &[u8], tray: &mut Tray) -> Result<Judged, Fault>
+    ensures { JudgesOn (B.NamedBook.numbered book.now) (B.Book.size book.now) (B.Book.automaton book.now) (B.Book.holds book.now) text.now tray.old.control result }
+{
+    let mut work: Work<STATES> = Work::new();
+    let mut steps = [Step {
+        place: 0,
+        build: Build::Negate,
+    }; STEPS];
+    read(book, text, tray, &mut work, &mut steps)?;
+    judge_top(tray)
+}
+
+// Opens a tray with these settings, and judges the text on it.
+fn judge_text<B: NamedBook>(book: &B, settings: Settings, text: &[u8]) -> Result<Judged, Fault>
+    ensures { JudgesText (B.NamedBook.numbered book.now) (B.Book.size book.now) (B.Book.automaton book.now) (B.Book.holds book.now) settings text.now result }
+{
+    let Settings {
+        sets,
+        budget,
+        depth,
+    } = settings;
+    let mut numbers = [0u16; NUMBERS];
+    let mut tray = Tray::within(&mut numbers, sets, budget, depth);
+    if let Err(why) = tray.open(sets, budget, depth) {
+        return Err(Fault {
+            reason: Reason::Call(why),
+            place: 0,
+        });
+    }
+    judge_on(book, text, &mut tray)
+}
+
+/// Answers a question: 16 where its first line is not that of the names, 17 where the second is not one of three values,
+/// and then what opening a tray with these settings, reading the text and judging it come to.
+pub fn answer_to<B: NamedBook>(book: &B, input: &[u8]) -> Answer
+    ensures { Answers (B.NamedBook.numbered book.now) (B.Book.size book.now) (B.Book.automaton book.now) (B.Book.holds book.now) input.now result }
+{
+    match read_question(input) {
+        Err(Unread::Heading) => Answer::Refused {
+            number: 16,
+            layer: 1,
+            place: 0,
+        },
+        Err(Unread::Values) => Answer::Refused {
+            number: 17,
+            layer: 1,
+            place: 0,
+        },
+        Ok(Question { settings, text }) => match judge_text(book, settings, text) {
+            Ok(judged) => Answer::Judged(judged),
+            Err(Fault { reason, place }) => Answer::Refused {
+                number: reason.number(),
+                layer: reason.layer(),
+                place,
+            },
+        },
+    }
+}
+
+/// Adds the two lines that answer a question. Only memory for them can be lacking.
+pub fn decide<B: NamedBook>(book: &B, input: &[u8], out: &mut Vec<u8>) -> Result<(), AllocError>
+    ensures { IfOk result (λ _. Decides (B.NamedBook.numbered book.now) (B.Book.size book.now) (B.Book.automaton book.now) (B.Book.holds book.now) input.now out.old.items out.new.items) }
+{
+    put_answer(out, &answer_to(book, input))
+}

@@ -1,0 +1,13 @@
+//! Deciding a claim: from the bytes of a question to the bytes of the answer.
+#![tactic(auto)]
+
+mod answer;
+mod deciding;
+mod printing;
+mod question;
+
+pub use answer::{Answer, Judged};
+pub use deciding::{answer_to, decide};
+
+#[cfg(test)]
+mod tests;

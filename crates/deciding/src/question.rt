@@ -1,0 +1,53 @@
+//! Reading a question: the settings of a tray, and a claim's text.
+ghost use Rattle.std.specs.Prelude.{◌≡◌, Decides};
+ghost use Rattle.deciding.specs.Questions.{heading, Asked};
+
+use calls::Settings;
+use loading::{cut, read_numbers};
+
+// The first line of a question.
+const HEADING: &[u8] = b"sets budget depth\n";
+
+/// Why a question is not read.
+#[derive(Clone, Copy)]
+pub(crate) enum Unread {
+    /// The first line is another.
+    Heading,
+    /// The second line is not three values.
+    Values,
+}
+
+/// The settings, and the text behind them.
+#[derive(Clone, Copy)]
+pub(crate) struct Question<'i> {
+    pub(crate) settings: Settings,
+    pub(crate) text: &'i [u8],
+}
+
+// Whether a line is the first line of a question.
+fn is_heading(line: &[u8]) -> bool
+    ensures { Decides result (line.now ≡ heading) }
+{
+    line == HEADING
+}
+
+// Reads a question. The text is all that follows the second line, a last line feed included.
+pub(crate) fn read_question(input: &[u8]) -> Result<Question<'_>, Unread>
+    ensures { Asked input.now result }
+{
+    let (first, rest) = cut(input);
+    if !is_heading(first) {
+        return Err(Unread::Heading);
+    }
+    let (line, text) = cut(rest);
+    let mut values = [0u16; 3];
+    if !read_numbers(line, &mut values) {
+        return Err(Unread::Values);
+    }
+    let settings = Settings {
+        sets: usize::from(values[0]),
+        budget: usize::from(values[1]),
+        depth: usize::from(values[2]),
+    };
+    Ok(Question { settings, text })
+}

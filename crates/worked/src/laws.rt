@@ -1,0 +1,8 @@
+//! The theorem about the worked examples, on the contract of a function that a program can call.
+ghost use Rattle.worked.specs.Rows.{WorkedRows};
+
+/// Computes nothing: its contract says of each worked example that its text reads as a claim, and that the verdict, the
+/// number of states and the two words are those that the rules give.
+pub fn laws_of_rows()
+    ensures { WorkedRows }
+{}
