@@ -1,0 +1,238 @@
+#!/usr/bin/env python3
+"""Feeds odd inputs to the built program `decide`, and counts crashes and hangs. Usage, at the top:
+
+    python3 tools/robust.py crates/decide/out/decide [COUNT] [--seed N] [--seconds N]
+
+An input is bytes at random, or a right question whose bytes were changed, cut off, repeated or doubled, whose numbers are
+at the limits and past them, or whose text is long or deeply nested. A crash is any exit status but 0, anything on standard
+error, and any output but the two lines of an answer or of a refusal, with values that can stand there. A hang is a run of
+more than so many seconds. Exit status 1 says that there was one of either. The same seed makes the same inputs."""
+import argparse
+import collections
+import pathlib
+import random
+import re
+import subprocess
+import sys
+
+HEADING = b"sets budget depth\n"
+MARKS = b"~&|>?!"
+PLACES = {b"sub": 2, b"one": 1, b"suc": 2, b"les": 2, b"sum": 3, b"emp": 1}
+NAMES = [*PLACES, b"abc", b"zzz", b"onE", b"oneA", b"on"]
+BYTES_OF_TEXTS = MARKS + b" \n\0\t\r,.-0189AZaz\x7f\x80\xff"
+
+# Numbers at the limits and past them, and what is no number.
+SETS = [b"0", b"1", b"2", b"3", b"4", b"5", b"6", b"7", b"8", b"9"]
+BUDGETS = [b"0", b"1", b"2", b"3", b"8", b"32", b"63", b"64", b"65", b"256", b"511", b"512", b"513"]
+DEPTHS = [b"0", b"1", b"2", b"3", b"7", b"8", b"9", b"15", b"16", b"17"]
+ODD = [b"", b"00", b"01", b"+1", b"-1", b" 1", b"1 ", b"1.0", b"1e3", b"0x4", b"four", b"65535", b"65536", b"99999",
+       b"4294967296", b"4294967300", b"18446744073709551616", b"18446744073709551620", b"9" * 40, b"\xc2\xb2", b"4\r"]
+
+# The numbers of refusals by layer.
+LAYERS = {1: {9, 10, 16, 17}, 2: {11, 12, 13, 14, 15}, 3: {1, 2, 3, 4, 21, 23}}
+WORD = rb"(?:-|\.|\d+(?:,\d+)*)"
+ANSWER = re.compile(rb"verdict states witness counter\n(none|some|all) ([1-9]\d*) (" + WORD + rb") (" + WORD + rb")\n")
+REFUSAL = re.compile(rb"refusal layer place\n(\d+) (\d+) (\d+)\n")
+
+
+# ---- Inputs ----
+
+def right_questions():
+    """The claims of the program `cases`, as questions."""
+    path = pathlib.Path(__file__).parent.parent / "crates" / "cases" / "stdin"
+    lines = [line.split(b" ", 1) for line in path.read_bytes().splitlines()]
+    return [question(sets, b"64", b"8", text) for sets, text in lines]
+
+
+def question(sets, budget, depth, text):
+    return HEADING + b"%b %b %b\n" % (sets, budget, depth) + text
+
+
+def limits(rng):
+    """Three values, mostly right ones."""
+    if rng.random() < 0.5:
+        return b"4", b"64", b"8"
+    return (rng.choice(values if rng.random() < 0.93 else ODD) for values in (SETS, BUDGETS, DEPTHS))
+
+
+def formula(rng, size, letters):
+    """Tokens of a formula over these letters, with a wrong one now and then."""
+    if rng.random() < 0.005:
+        return [rng.choice([*NAMES, b"~", b"&", b"?", b"A", b"p", b""])]
+    if size < 2:
+        name = rng.choice(list(PLACES))
+        return [name, *(bytes([rng.choice(letters)]) for _ in range(PLACES[name]))]
+    mark = bytes([rng.choice(MARKS)])
+    if mark == b"~":
+        return [mark, *formula(rng, size - 1, letters)]
+    if mark in b"?!":
+        return [mark, bytes([rng.choice(letters)]), *formula(rng, size - 1, letters)]
+    left = rng.randint(1, size - 1)
+    return [mark, *formula(rng, left, letters), *formula(rng, size - left, letters)]
+
+
+def at_random(rng, _):
+    many = rng.choice((0, 1, 2, 10, 18, 19, 30, 100, 1000, 2000))
+    return bytes(rng.choices(range(256) if rng.random() < 0.5 else HEADING + BYTES_OF_TEXTS, k=many))
+
+
+def heading_and_bytes(rng, _):
+    return question(*limits(rng), bytes(rng.choices(range(256) if rng.random() < 0.3 else BYTES_OF_TEXTS, k=rng.randint(0, 60))))
+
+
+def tokens_in_any_order(rng, _):
+    tokens = [*NAMES, *(bytes([mark]) for mark in MARKS), *(bytes([letter]) for letter in b"ABCDEpqrxy")]
+    return question(*limits(rng), rng.choice((b" ", b"\n", b"  ")).join(rng.choices(tokens, k=rng.randint(0, 120))))
+
+
+def formulas(rng, _):
+    letters = rng.sample(b"ABCDpqrx", rng.choice((1, 2, 3, 4, 4, 5)))
+    return question(*limits(rng), b" ".join(formula(rng, rng.randint(1, 40), letters)))
+
+
+def right_with_other_limits(rng, right):
+    text = rng.choice(right).split(b"\n", 2)[2]
+    return question(*limits(rng), text)
+
+
+def changed(rng, right):
+    """A right question with some bytes flipped, inserted, deleted, repeated, moved or cut off, often in its text alone."""
+    given = bytearray(rng.choice(right))
+    first = given.index(b"\n", len(HEADING)) + 1 if rng.random() < 0.7 else 0
+    for _ in range(rng.choice((1, 1, 1, 2, 3, 8, 30))):
+        at = rng.randint(min(first, len(given)), len(given))
+        end = min(len(given), at + rng.choice((1, 2, 5, 20, 200)))
+        match rng.randrange(7):
+            case 0 if at < len(given):
+                given[at] ^= 1 << rng.randrange(8)
+            case 1:
+                given[at:at] = bytes([rng.choice(BYTES_OF_TEXTS) if rng.random() < 0.7 else rng.randrange(256)])
+            case 2:
+                del given[at:end]
+            case 3:
+                given[at:at] = given[at:end] * rng.choice((1, 1, 2, 40))
+            case 4:
+                moved = given[at:end]
+                del given[at:end]
+                to = rng.randint(min(first, len(given)), len(given))
+                given[to:to] = moved
+            case 5 if at < len(given):
+                given[at] = rng.choice(BYTES_OF_TEXTS)
+            case 6 if rng.random() < 0.3:
+                del given[at:]
+    return bytes(given[:4000])
+
+
+def cut_off(rng, right):
+    given = rng.choice(right)
+    lines = given.split(b"\n")
+    match rng.randrange(4):
+        case 0:
+            return given[:rng.randint(0, len(given))]
+        case 1:
+            return given[rng.randint(0, len(given)):]
+        case 2:
+            del lines[rng.randrange(len(lines))]
+        case 3:
+            lines[rng.randrange(2)] = lines[rng.randrange(2)][:rng.randint(0, 17)]
+    return b"\n".join(lines)
+
+
+def two_as_one(rng, right):
+    return rng.choice(right) + rng.choice((b"", b"\n", b" ")) + rng.choice(right)
+
+
+def long_text(rng, right):
+    """A text of up to 2,000 bytes, often next to the longest that is read."""
+    many = rng.choice((1000, 1022, 1023, 1024, 1025, 1026, 1500, 2000, rng.randint(0, 2000)))
+    part = rng.choice((b" ", b"\n", b"~", b"A", b"a", b"& one A ", b"?A", b"!p", b"| sub A B ", b"> emp A ", b"sum A B C ", b"\0",
+                       rng.choice(right).split(b"\n", 2)[2] + b" "))
+    last = rng.choice((b"", b"one A", b" one A", b" sub A B", b"&", b"?"))
+    text = (part * many)[:max(0, many - len(last))] + last
+    return question(*limits(rng), text)
+
+
+def deep(rng, _):
+    """Formulas inside so many others, next to the limit of 32 and far past it."""
+    many = rng.choice((1, 7, 8, 16, 31, 32, 33, 34, 100, 300, 500))
+    text = rng.choice((
+        b"~" * many + b"one A",
+        b"?A" * many + b" one A",
+        b"!p" * many + b" sub p A",
+        b"?p!A" * (many // 2) + b" sub p A",
+        b"& one A " * many + b"one A",
+        b"|" * many + b" one A" * (many + 1),
+        b">" * many + b" sub A B" * (many + 1),
+        b"&~" * (many // 2) + b" emp B" * (many // 2 + 1),
+        b"|?B!A" * (many // 3) + b" sum A B C" * (many // 3 + 1)))
+    return question(*limits(rng), text)
+
+
+KINDS = {at_random: 2, heading_and_bytes: 2, tokens_in_any_order: 2, formulas: 4, right_with_other_limits: 3, changed: 8, cut_off: 2,
+         two_as_one: 1, long_text: 3, deep: 3}
+
+
+# ---- What comes of them ----
+
+def is_word(word, sets, states):
+    """Whether a word can stand in an answer: shorter than the states are many, of columns over the sets."""
+    if word in (b"-", b"."):
+        return True
+    columns = [int(column) for column in word.split(b",")]
+    return len(columns) < states and all(column < 2 ** sets for column in columns) and b",".join(b"%d" % column for column in columns) == word
+
+
+def outcome(given, output):
+    """The verdict or the number of the refusal, or None for any other output."""
+    lines = given.split(b"\n", 2)
+    if said := REFUSAL.fullmatch(output):
+        number, layer, place = (int(value) for value in said.groups())
+        text = lines[2] if len(lines) == 3 else b""
+        return number if number in LAYERS.get(layer, ()) and place <= len(text) else None
+    if said := ANSWER.fullmatch(output):
+        verdict, states, witness, counter = said.groups()
+        sets, budget, _ = (int(value) for value in lines[1].split())
+        absent = {b"none": (True, False), b"some": (False, False), b"all": (False, True)}[verdict]
+        right = (absent == (witness == b"-", counter == b"-") and int(states) <= budget
+                 and all(is_word(word, sets, int(states)) for word in (witness, counter)))
+        return verdict.decode() if right else None
+    return None
+
+
+def main():
+    arguments = argparse.ArgumentParser(description="Feeds odd inputs to decide, and counts crashes and hangs.")
+    arguments.add_argument("program", type=pathlib.Path)
+    arguments.add_argument("count", type=int, nargs="?", default=20_000)
+    arguments.add_argument("--seed", type=int, default=1)
+    arguments.add_argument("--seconds", type=float, default=5)
+    given = arguments.parse_args()
+    program = [str(given.program.resolve())]
+    rng = random.Random(given.seed)
+    right = right_questions()
+    outcomes, kinds, wrong = collections.Counter(), collections.Counter(), collections.Counter()
+    longest = 0
+    for _ in range(given.count):
+        kind, = rng.choices(list(KINDS), list(KINDS.values()))
+        odd = kind(rng, right)
+        kinds[kind.__name__] += 1
+        longest = max(longest, len(odd))
+        try:
+            run = subprocess.run(program, input=odd, capture_output=True, timeout=given.seconds)
+        except subprocess.TimeoutExpired:
+            wrong["hangs"] += 1
+            print(f"HANG {odd!r}")
+            continue
+        said = outcome(odd, run.stdout)
+        if run.returncode or run.stderr or said is None:
+            wrong["crashes"] += 1
+            print(f"CRASH {odd!r}: status {run.returncode}, output {run.stdout!r}, errors {run.stderr!r}")
+            continue
+        outcomes[said] += 1
+    print(f"{given.count} inputs of up to {longest} bytes: " + ", ".join(f"{name} {many}" for name, many in kinds.items()))
+    print("outcomes: " + ", ".join(f"{said} {outcomes[said]}" for said in sorted(outcomes, key=str)))
+    print(f"crashes: {wrong['crashes']}, hangs: {wrong['hangs']}")
+    sys.exit(bool(wrong))
+
+
+if __name__ == "__main__":
+    main()
