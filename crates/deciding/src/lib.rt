@@ -8,6 +8,7 @@ mod question;
 
 pub use answer::{Answer, Judged};
 pub use deciding::{answer_to, decide};
+pub use question::{Question, Unread, read_question};
 
 #[cfg(test)]
 mod tests;

@@ -10,7 +10,7 @@ const HEADING: &[u8] = b"sets budget depth\n";
 
 /// Why a question is not read.
 #[derive(Clone, Copy)]
-pub(crate) enum Unread {
+pub enum Unread {
     /// The first line is another.
     Heading,
     /// The second line is not three values.
@@ -19,9 +19,9 @@ pub(crate) enum Unread {
 
 /// The settings, and the text behind them.
 #[derive(Clone, Copy)]
-pub(crate) struct Question<'i> {
-    pub(crate) settings: Settings,
-    pub(crate) text: &'i [u8],
+pub struct Question<'i> {
+    pub settings: Settings,
+    pub text: &'i [u8],
 }
 
 // Whether a line is the first line of a question.
@@ -31,8 +31,8 @@ fn is_heading(line: &[u8]) -> bool
     line == HEADING
 }
 
-// Reads a question. The text is all that follows the second line, a last line feed included.
-pub(crate) fn read_question(input: &[u8]) -> Result<Question<'_>, Unread>
+/// Reads a question. The text is all that follows the second line, a last line feed included.
+pub fn read_question(input: &[u8]) -> Result<Question<'_>, Unread>
     ensures { Asked input.now result }
 {
     let (first, rest) = cut(input);

@@ -1,0 +1,73 @@
+//! Why a question or a text is refused.
+ghost use Rattle.std.specs.Prelude.{◌≡◌};
+ghost use Rattle.tray.specs.Refusals.{number_of};
+ghost use Rattle.reading.specs.Building.{refused_place};
+ghost use Rattle.reading.specs.declared.fault.Reason.TheVariants.{Call as call};
+
+use crate::line::{Blanks, OneLine};
+use deciding::Unread;
+use reading::{Fault, Reason};
+use std::{fmt, io};
+use tray::Refusal;
+
+// A reason as a sentence.
+#[derive(Clone, Copy)]
+struct Sentence(Reason);
+
+impl fmt::Display for Sentence {
+    fn fmt<W: fmt::Write>(&self, f: &mut fmt::Formatter<W>) -> fmt::Result {
+        match self.0 {
+            Reason::Text(flaw) => write!(f, "{flaw}"),
+            Reason::Call(refusal) => write!(f, "{refusal}"),
+        }
+    }
+}
+
+/// Prints why a question is not read.
+pub fn tell_unread(rt: &impl Print, why: Unread) -> io::Result<()> {
+    match why {
+        Unread::Heading => {
+            println!(rt; "refused (16, layer 1): the first line is not `sets budget depth`")
+        }
+        Unread::Values => println!(rt;
+            "refused (17, layer 1): the second line is not three numbers up to 65,535, one space apart"
+        ),
+    }
+}
+
+/// The fault of a call that is refused at a place of the text. Memory that is too short is no fault of the text,
+/// and has place 0.
+pub fn fault_of(why: Refusal, place: u16) -> Fault
+    ensures reason { result.reason ≡ call why }
+    ensures place { result.place ≡ refused_place (number_of why) place }
+{
+    let place = match why {
+        Refusal::NoMemory => 0,
+        _ => usize::from(place),
+    };
+    Fault {
+        reason: Reason::Call(why),
+        place,
+    }
+}
+
+/// Prints why something is refused, whatever the text is.
+pub fn tell_reason(rt: &impl Print, reason: Reason) -> io::Result<()> {
+    println!(rt;
+        "refused ({}, layer {}): {}",
+        reason.number(),
+        reason.layer(),
+        Sentence(reason)
+    )
+}
+
+/// Prints the text with the place of its fault marked, and why it is refused. A text that is too long, or that there is
+/// no memory for, has no such place.
+pub fn tell_fault(rt: &impl Print, text: &[u8], fault: Fault) -> io::Result<()> {
+    let Fault { reason, place } = fault;
+    if !matches!(reason.number(), 4 | 9) {
+        println!(rt; "{}", OneLine(text))?;
+        println!(rt; "{}^", Blanks(place))?;
+    }
+    tell_reason(rt, reason)
+}
