@@ -11,8 +11,8 @@ mod seal;
 mod unloaded;
 
 pub use draft::Draft;
-pub use loaded::{Loaded, MOST_CELLS};
 pub use lines::read_numbers;
+pub use loaded::{Loaded, MOST_CELLS};
 pub use reading::{Fault, cut, load};
 pub use seal::Unsealed;
 pub use unloaded::Unloaded;
