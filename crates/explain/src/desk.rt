@@ -1,10 +1,10 @@
 //! A tray, and the memory that is lent to its calls.
-ghost use Rattle.std.specs.Prelude.{◌≡◌, IfOk, IfSome, Some, take};
+ghost use Rattle.std.specs.Prelude.{◌≡◌, IfOk, take};
 ghost use Rattle.deciding.specs.Answers.{Opened};
-ghost use Rattle.deciding.specs.Printed.{word_at};
 ghost use Rattle.books.specs.Standard.{count, automaton, holds};
 ghost use Rattle.calls.specs.Buffers.{held};
 ghost use Rattle.calls.specs.Making.{Makes};
+ghost use Rattle.explain.specs.Shown.{Shows};
 ghost use Rattle.explain.specs.Asked.{Asks, few_places};
 
 use books::Standard;
@@ -62,14 +62,14 @@ impl<'m> Desk<'m> {
 
     /// The first so many columns of the witness.
     pub fn witness(&self, columns: Option<usize>) -> Option<&[u8]>
-        ensures { IfSome result (λ word. Some word.now ≡ word_at self.now.output.witness columns) }
+        ensures { Shows self.now.output.witness columns result }
     {
         self.output.witness.get(..columns?)
     }
 
     /// The first so many columns of the counterexample.
     pub fn counterexample(&self, columns: Option<usize>) -> Option<&[u8]>
-        ensures { IfSome result (λ word. Some word.now ≡ word_at self.now.output.counterexample columns) }
+        ensures { Shows self.now.output.counterexample columns result }
     {
         self.output.counterexample.get(..columns?)
     }

@@ -1,4 +1,7 @@
 //! The letters of a text, and how each of them stands in it.
+ghost use Rattle.std.specs.Prelude.{◌≡◌};
+ghost use Rattle.std.specs.Char.{is_ascii_lowercase};
+
 use books::Standard;
 use std::fmt;
 use tokens::{Item, LONGEST, Mark, Sense, list_items};
@@ -19,7 +22,9 @@ pub struct Letter {
 
 impl Letter {
     /// A small letter stands for a position.
-    pub fn is_position(&self) -> bool {
+    pub fn is_position(&self) -> bool
+        ensures { result ≡ is_ascii_lowercase self.now.letter }
+    {
         self.letter.is_ascii_lowercase()
     }
 
