@@ -4,7 +4,7 @@ use Rattle.std.proofs.Common.{⊎_elim, arith, nat_lt, sym, subst}
 use Rattle.std.proofs.Math.Nat.{min-le_right}
 use Rattle.std.proofs.lemmas.Bool.{cases_Bool, cond-true, cond-false, ltb-true, ltb-false}
 use Rattle.words.specs.Automata.{Automaton}
-use Rattle.books.specs.Rule.{Decides, Silent, Absent, SetRule}
+use Rattle.books.specs.Rule.{Recognizes, Silent, Absent, SetRule}
 use Rattle.books.specs.Bound.{most, count_of, source_of, from, nothing, automaton, holds}
 use Rattle.books.specs.declared.bound.Source.{Source}
 use Rattle.books.specs.declared.bound.Source.TheVariants.{First, Second, Neither}
@@ -29,11 +29,11 @@ nothing_silent = record { step = λ s c _. refl; accepts = λ s _. refl }
 
 module _ (a b : ℕ) (first second : ℕ → Automaton) (means follows : ℕ → List ℕ → Type 0)
     (one : SetRule a first means) (two : SetRule b second follows) where
-  decides : (p : ℕ) → p < count_of a b → Decides (automaton a first second p) (holds a means follows p)
-  decides p below =
-      at_source a p (λ source. Decides (from first second nothing source) (from means follows (λ _. ⊥) source))
-      (λ h. one.decides p h)
-      (λ h _. two.decides (p - a) (omega (arith, below, h)))
+  recognizes : (p : ℕ) → p < count_of a b → Recognizes (automaton a first second p) (holds a means follows p)
+  recognizes p below =
+      at_source a p (λ source. Recognizes (from first second nothing source) (from means follows (λ _. ⊥) source))
+      (λ h. one.recognizes p h)
+      (λ h _. two.recognizes (p - a) (omega (arith, below, h)))
       (λ h. absurd (omega (arith, below, h)))
 
   absent : (p : ℕ) → count_of a b ≤ p → Absent (automaton a first second p)
@@ -50,7 +50,7 @@ pub bound_rule : {a b : ℕ} {first second : ℕ → Automaton} {means follows :
     → SetRule a first means → SetRule b second follows → SetRule (count_of a b) (automaton a first second) (holds a means follows)
 bound_rule {a} {b} {first} {second} {means} {follows} one two = record {
   few = min-le_right (a + b) most;
-  decides = decides a b first second means follows one two;
+  recognizes = recognizes a b first second means follows one two;
   absent = absent a b first second means follows one two;
   silent = silent a b first second means follows one two;
 }

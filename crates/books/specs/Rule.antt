@@ -3,9 +3,9 @@ use Rattle.std.specs.Prelude.{◌≡◌, ℕ, ◌^◌, ◌<◌, ◌≤◌, true,
 use Rattle.words.specs.Automata.{Automaton, accepted}
 use Rattle.words.specs.Words.{Columns, sets}
 
--- The automaton decides the relation: start and steps stay among its states, and the run over a word ends accepting
+-- The automaton recognizes the relation: start and steps stay among its states, and the run over a word ends accepting
 -- exactly when the relation holds of the sets that the word codes.
-pub record Decides (a : Automaton) (holds : List ℕ → Type 0) : Type 0 where
+pub record Recognizes (a : Automaton) (holds : List ℕ → Type 0) : Type 0 where
   pub places : (1 ≤ a.places) × (a.places ≤ 4)
   pub states : (1 ≤ a.states) × (a.states ≤ 512)
   pub start : a.start < a.states
@@ -26,6 +26,6 @@ pub record Absent (a : Automaton) : Type 0 where
 -- The rule of a book with `count` predicates, an automaton for each, and the relation that each one means.
 pub record SetRule (count : ℕ) (automaton : ℕ → Automaton) (holds : ℕ → List ℕ → Type 0) : Type 0 where
   pub few : count ≤ 64
-  pub decides : (p : ℕ) → p < count → Decides (automaton p) (holds p)
+  pub recognizes : (p : ℕ) → p < count → Recognizes (automaton p) (holds p)
   pub absent : (p : ℕ) → count ≤ p → Absent (automaton p)
   pub silent : (p : ℕ) → Silent (automaton p)

@@ -9,8 +9,8 @@ use Rattle.words.specs.Relations.{Within, Singleton, Successor, Less, Sum, Unary
 use Rattle.words.specs.Rows.{written}
 use Rattle.words.proofs.Reading.{neither, empty_of_zero, empty_0, empty_1, only_zero_0, only_zero_1, only_of_zero, singleton_0, singleton_1, within_on, within_off, successor_00, successor_10, successor_1, less_00, less_10, less_1, sum_plain}
 use Rattle.words.proofs.Deciding.{Each, each}
-use Rattle.books.specs.Rule.{Decides, SetRule}
-use Rattle.books.specs.WrittenRule.{written_silent, written_decides}
+use Rattle.books.specs.Rule.{Recognizes, SetRule}
+use Rattle.books.specs.WrittenRule.{written_silent, written_recognizes}
 use Rattle.books.specs.Standard.{sub_rows, one_rows, suc_rows, les_rows, sum_rows, emp_rows, count, places, states, rows, automaton, holds}
 
 -- an accepting state, whose meaning holds of the empty sets; another, whose meaning fails of them
@@ -39,8 +39,8 @@ abbrev SubState : ℕ → List ℕ → Type 0
 SubState zero = Binary Within
 SubState (suc s) = Lost
 
-sub_decides : Decides (written 2 2 sub_rows) (Binary Within)
-sub_decides = written_decides 2 2 sub_rows SubState (omega arith) (omega arith) refl
+sub_recognizes : Recognizes (written 2 2 sub_rows) (Binary Within)
+sub_recognizes = written_recognizes 2 2 sub_rows SubState (omega arith) (omega arith) refl
     (accepting (λ p m. m), (failing never, tt)) (
       (
         (λ w. on 0 0 w (omega arith) (omega arith) (λ e. e)),
@@ -66,8 +66,8 @@ OneState zero = Unary Singleton
 OneState (suc zero) = Unary Empty
 OneState (suc (suc s)) = Lost
 
-one_decides : Decides (written 1 3 one_rows) (Unary Singleton)
-one_decides = written_decides 1 3 one_rows OneState (omega arith) (omega arith) refl
+one_recognizes : Recognizes (written 1 3 one_rows) (Unary Singleton)
+one_recognizes = written_recognizes 1 3 one_rows OneState (omega arith) (omega arith) refl
     (failing (λ s. only_of_zero s.0 s.1), (accepting empty_of_zero, (failing never, tt))) (
       ((λ w. singleton_0 (coded 0 w)), ((λ w. singleton_1 (coded 0 w)), tt)),
       (
@@ -112,8 +112,8 @@ SucState (suc zero) = Binary EmptyAndZero
 SucState (suc (suc zero)) = Binary BothEmpty
 SucState (suc (suc (suc s))) = Lost
 
-suc_decides : Decides (written 2 4 suc_rows) (Binary Successor)
-suc_decides = written_decides 2 4 suc_rows SucState (omega arith) (omega arith) refl (
+suc_recognizes : Recognizes (written 2 4 suc_rows) (Binary Successor)
+suc_recognizes = written_recognizes 2 4 suc_rows SucState (omega arith) (omega arith) refl (
   failing (λ s. only_of_zero s.0 s.1),
   (failing (λ s. only_of_zero 0 s.1), (accepting (empty_of_zero, empty_of_zero), (failing never, tt))),
 ) (
@@ -156,8 +156,8 @@ LesState (suc zero) = Binary EmptyAndSingle
 LesState (suc (suc zero)) = Binary BothEmpty
 LesState (suc (suc (suc s))) = Lost
 
-les_decides : Decides (written 2 4 les_rows) (Binary Less)
-les_decides = written_decides 2 4 les_rows LesState (omega arith) (omega arith) refl (
+les_recognizes : Recognizes (written 2 4 les_rows) (Binary Less)
+les_recognizes = written_recognizes 2 4 les_rows LesState (omega arith) (omega arith) refl (
   failing (λ s. only_of_zero s.0 s.2),
   (failing (λ s. only_of_zero s.1.0 s.1.1), (accepting (empty_of_zero, empty_of_zero), (failing never, tt))),
 ) (
@@ -213,8 +213,8 @@ stops : (k l x y z : ℕ) → x + y + k + 1 ≡ z + 2 * l → (w : List ℕ)
     → Carried k (x + 2 * coded 0 w) (y + 2 * coded 1 w) (z + 2 * coded 2 w) ↔ ⊥
 stops k l x y z wrong w = neither (λ h. omega arith) never
 
-carried_decides : Decides (written 3 3 sum_rows) (Ternary (Carried 0))
-carried_decides = written_decides 3 3 sum_rows SumState (omega arith) (omega arith) refl
+carried_recognizes : Recognizes (written 3 3 sum_rows) (Ternary (Carried 0))
+carried_recognizes = written_recognizes 3 3 sum_rows SumState (omega arith) (omega arith) refl
     (accepting refl, (failing (λ h. omega arith), (failing never, tt))) (
       (
         goes 0 0 0 0 0 refl,
@@ -247,15 +247,15 @@ carried_decides = written_decides 3 3 sum_rows SumState (omega arith) (omega ari
       ),
     )
 
-sum_decides : Decides (written 3 3 sum_rows) (Ternary Sum)
-sum_decides = record {
-  places = carried_decides.places;
-  states = carried_decides.states;
-  start = carried_decides.start;
-  step = carried_decides.step;
+sum_recognizes : Recognizes (written 3 3 sum_rows) (Ternary Sum)
+sum_recognizes = record {
+  places = carried_recognizes.places;
+  states = carried_recognizes.states;
+  start = carried_recognizes.start;
+  step = carried_recognizes.step;
   means = λ w cs.
       let plain = sum_plain (coded 0 w) (coded 1 w) (coded 2 w) in
-      ((λ a. plain.0 ((carried_decides.means w cs).0 a)), (λ m. (carried_decides.means w cs).1 (plain.1 m)));
+      ((λ a. plain.0 ((carried_recognizes.means w cs).0 a)), (λ m. (carried_recognizes.means w cs).1 (plain.1 m)));
 }
 
 -- ---- emp
@@ -264,8 +264,8 @@ abbrev EmpState : ℕ → List ℕ → Type 0
 EmpState zero = Unary Empty
 EmpState (suc s) = Lost
 
-emp_decides : Decides (written 1 2 emp_rows) (Unary Empty)
-emp_decides = written_decides 1 2 emp_rows EmpState (omega arith) (omega arith) refl
+emp_recognizes : Recognizes (written 1 2 emp_rows) (Unary Empty)
+emp_recognizes = written_recognizes 1 2 emp_rows EmpState (omega arith) (omega arith) refl
     (accepting empty_of_zero, (failing never, tt))
     (((λ w. empty_0 (coded 0 w)), ((λ w. neither (empty_1 (coded 0 w)) never), tt)), (((λ w. lost), ((λ w. lost), tt)), tt))
 
@@ -274,8 +274,8 @@ emp_decides = written_decides 1 2 emp_rows EmpState (omega arith) (omega arith) 
 pub standard_rule : SetRule count automaton holds
 standard_rule = record {
   few = omega arith;
-  decides = each 6 (λ p. Decides (automaton p) (holds p))
-      (sub_decides, (one_decides, (suc_decides, (les_decides, (sum_decides, (emp_decides, tt))))));
+  recognizes = each 6 (λ p. Recognizes (automaton p) (holds p))
+      (sub_recognizes, (one_recognizes, (suc_recognizes, (les_recognizes, (sum_recognizes, (emp_recognizes, tt))))));
   absent = λ p past. record { places = get_or_past (2 ∷ 1 ∷ 2 ∷ 2 ∷ 3 ∷ 1 ∷ []) p 0 past; states = get_or_past (2 ∷ 3 ∷ 4 ∷ 4 ∷ 3 ∷ 2 ∷ []) p 0 past; start = refl };
   silent = λ p. written_silent (places p) (states p) (rows p);
 }

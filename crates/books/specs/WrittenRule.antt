@@ -5,7 +5,7 @@ use Rattle.std.proofs.lemmas.Bool.{ltb-true, le-ltb, and_left, and_right, cond-f
 use Rattle.words.specs.Words.{sets}
 use Rattle.words.specs.Rows.{written}
 use Rattle.words.proofs.Deciding.{Each, each, tests, tested, run_means}
-use Rattle.books.specs.Rule.{Decides, Silent}
+use Rattle.books.specs.Rule.{Recognizes, Silent}
 
 -- Outside of its rows it says 0 and no.
 pub written_silent : (k n : ℕ) (rows : List ℕ) → Silent (written k n rows)
@@ -20,13 +20,13 @@ written_silent k n rows = record {
 abbrev pub stays : ℕ → ℕ → List ℕ → Bool
 stays k n rows = tests n (λ s. tests (2 ^ k) (λ c. ltb ((written k n rows).step s c) n))
 
--- Where each state has a meaning, which its row keeps, the automaton decides the meaning of state 0.
-pub written_decides : (k n : ℕ) (rows : List ℕ) (Meaning : ℕ → List ℕ → Type 0)
+-- Where each state has a meaning, which its row keeps, the automaton recognizes the meaning of state 0.
+pub written_recognizes : (k n : ℕ) (rows : List ℕ) (Meaning : ℕ → List ℕ → Type 0)
     → (1 ≤ k) × (k ≤ 4) → (1 ≤ n) × (n ≤ 512) → stays k n rows ≡ true
     → Each n (λ s. ((written k n rows).accepts s ≡ true) ↔ Meaning s (sets k []))
     → Each n (λ s. Each (2 ^ k) (λ c. (w : List ℕ) → Meaning s (sets k (c ∷ w)) ↔ Meaning ((written k n rows).step s c) (sets k w)))
-    → Decides (written k n rows) (Meaning 0)
-written_decides k n rows Meaning few-places few-states stay ends moves = record {
+    → Recognizes (written k n rows) (Meaning 0)
+written_recognizes k n rows Meaning few-places few-states stay ends moves = record {
   places = few-places;
   states = few-states;
   start = few-states.0;

@@ -25,7 +25,7 @@ one i w = language (asked exactly (i ∷ [])) w
 stays : (i s : ℕ) (w : List ℕ) → s < 3 → run (asked exactly (i ∷ [])).next s w < 3
 stays i s [] h = h
 stays i s (c ∷ w) h =
-    stays i (exactly.step s (through (i ∷ []) c)) w ((standard_rule.decides 1 (omega arith)).step s (through (i ∷ []) c) h (through_below (i ∷ []) c))
+    stays i (exactly.step s (through (i ∷ []) c)) w ((standard_rule.recognizes 1 (omega arith)).step s (through (i ∷ []) c) h (through_below (i ∷ []) c))
 
 -- words that lead to one state go on alike
 goes_on : (i : ℕ) (u w v : List ℕ) → state i u ≡ state i w → one i (u ++ v) ≡ one i (w ++ v)

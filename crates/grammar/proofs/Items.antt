@@ -26,7 +26,7 @@ few_places Wrong = Unit {0}
 
 pub at_most_four : (size : ℕ) (a : ℕ → Automaton) (holds : ℕ → List ℕ → Type 0) → SetRule size a holds → (p : ℕ) → (a p).places ≤ 4
 at_most_four size a holds rule p =
-    ⊎_elim (λ low. (rule.decides p low).places.1) (λ high. omega (arith, (rule.absent p high).places)) (cases_lt p size)
+    ⊎_elim (λ low. (rule.recognizes p low).places.1) (λ high. omega (arith, (rule.absent p high).places)) (cases_lt p size)
 
 module _ (numbered : List ℕ → Option ℕ) (a : ℕ → Automaton) (four : (p : ℕ) → (a p).places ≤ 4) where
   number_few : (r : Option ℕ) → few_places (sense_of_number a r)

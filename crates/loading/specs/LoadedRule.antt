@@ -11,8 +11,7 @@ use Rattle.words.specs.Rows.{written, next_of, mark_of}
 use Rattle.words.proofs.Answering.{step_inside}
 use Rattle.words.proofs.Bits.{bit_small, bit_of_zero}
 use Rattle.words.proofs.Deciding.{run_means}
-use Rattle.books.specs.Rule as rule
-use Rattle.books.specs.Rule.{SetRule}
+use Rattle.books.specs.Rule.{Recognizes, Absent, SetRule}
 use Rattle.books.specs.WrittenRule.{written_silent}
 use Rattle.loading.specs.Loaded.{Accepts, size, automaton, holds}
 use Rattle.loading.specs.declared.loaded.Loaded.{Loaded}
@@ -113,8 +112,8 @@ module _ (k n : ℕ) (rows : List ℕ) (nexts : (s c : ℕ) → s < n → c < 2 
       (λ m. (c ∷ m.0, (hc, m.1), coded_same k (c ∷ m.0) (c ∷ w) (λ i l. ap (λ x. bit i c + 2 * x) (same_coded k m.0 w m.2 i l)), m.3)),
     )
 
-    saved_decides : (1 ≤ k) × (k ≤ 4) → (1 ≤ n) × (n ≤ 512) → rule.Decides (written k n rows) (Accepts k n rows)
-    saved_decides few_places few_states = record {
+    saved_recognizes : (1 ≤ k) × (k ≤ 4) → (1 ≤ n) × (n ≤ 512) → Recognizes (written k n rows) (Accepts k n rows)
+    saved_recognizes few_places few_states = record {
       places = few_places;
       states = few_states;
       start = few_states.0;
@@ -125,13 +124,13 @@ module _ (k n : ℕ) (rows : List ℕ) (nexts : (s c : ℕ) → s < n → c < 2 
 -- ---- the rule
 
 module _ (b : Loaded) where
-  decides : (p : ℕ) → p < size b → rule.Decides (automaton b p) (holds b p)
-  decides zero h =
+  recognizes : (p : ℕ) → p < size b → Recognizes (automaton b p) (holds b p)
+  recognizes zero h =
       let some : 1 ≤ b.states = omega arith in
-      saved_decides b.places b.states b.cells b.nexts b.settled (b.some_places some, b.few_places) (some, b.few_states)
-  decides (suc p) h = absurd (omega arith)
+      saved_recognizes b.places b.states b.cells b.nexts b.settled (b.some_places some, b.few_places) (some, b.few_states)
+  recognizes (suc p) h = absurd (omega arith)
 
-  absent : (p : ℕ) → size b ≤ p → rule.Absent (automaton b p)
+  absent : (p : ℕ) → size b ≤ p → Absent (automaton b p)
   absent zero h =
       let none : b.states ≡ 0 = omega arith in
       record { places = b.blank none; states = none; start = refl }
@@ -140,7 +139,7 @@ module _ (b : Loaded) where
   pub loaded_rule : SetRule (size b) (automaton b) (holds b)
   loaded_rule = record {
     few = omega arith;
-    decides = decides;
+    recognizes = recognizes;
     absent = absent;
     silent = λ p. written_silent (automaton b p).places (automaton b p).states (slice_index_or (b.cells ∷ []) p []);
   }

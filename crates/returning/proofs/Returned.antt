@@ -88,7 +88,7 @@ module _ (b : Loaded) (text : List ℕ) (own : text ≡ table_text b.places b.st
     tells listed is w cw =
         let all : map (λ i. coded i w) listed.now ≡ sets b.places w =
         ap (map (λ i. coded i w)) is ∙ all_sets b.places w (b.some_places some) b.few_places in
-        let means = ((loaded_rule b).decides 0 (omega (arith, some))).means w cw in
+        let means = ((loaded_rule b).recognizes 0 (omega (arith, some))).means w cw in
         let same : accepted (written b.places b.states b.cells) w ≡ L w =
         ap (λ a. accepted a w) automata ∙ ap (λ k. accepted (written k states (cut_off rows)) w) (sym places)
         ∙ table_answers b.places L (cut_off rows) states table w cw in (

@@ -7,7 +7,7 @@ use Rattle.words.specs.Formulas.{through, placed}
 use Rattle.words.specs.Residuals.{Equality}
 use Rattle.words.proofs.Truths.{truth_local}
 use Rattle.words.proofs.Placing.{through_run, through_columns, through_sets}
-use Rattle.books.specs.Rule as rule
+use Rattle.books.specs.Rule.{Recognizes}
 use Rattle.tray.specs.Asked.{asked, SameBookState}
 
 module _ (a : Automaton) (listed : List ℕ) where
@@ -18,14 +18,14 @@ module _ (a : Automaton) (listed : List ℕ) where
   same_asked u w e = through_run a.step listed a.start u ∙ e ∙ sym (through_run a.step listed a.start w)
 
   -- it accepts a word exactly when the relation holds of the listed sets of the word
-  pub asked_means : (holds : List ℕ → Type 0) → rule.Decides a holds → length listed ≡ a.places
+  pub asked_means : (holds : List ℕ → Type 0) → Recognizes a holds → length listed ≡ a.places
       → (w : List ℕ) → Decides (language (asked a listed) w) (holds (map (λ i. coded i w) listed))
-  asked_means holds decides places w =
+  asked_means holds recognizes places w =
       let read : List ℕ = map (through listed) w in
       let is : language (asked a listed) w ≡ accepted a read = ap a.accepts (through_run a.step listed a.start w) in
       let columns : Columns a.places read = subst (λ k. Columns k read) places (through_columns listed w) in
       let same : sets a.places read ≡ map (λ i. coded i w) listed = ap (λ k. sets k read) (sym places) ∙ through_sets listed w in
-      let means = decides.means read columns in
+      let means = recognizes.means read columns in
       ((λ e. subst holds same (means.0 (sym is ∙ e))), (λ h. is ∙ means.1 (subst holds (sym same) h)))
 
   pub book_equality : Equality (SameBookState a listed)

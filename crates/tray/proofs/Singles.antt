@@ -16,7 +16,7 @@ use Rattle.words.proofs.Counts.{within, pigeons}
 use Rattle.words.proofs.Hiding.{turned_here, turned_below}
 use Rattle.words.proofs.Placing.{through_run, through_columns}
 use Rattle.words.proofs.TableLaws.{residual_equality, table_counts}
-use Rattle.books.specs.Rule as rule
+use Rattle.books.specs.Rule.{Recognizes}
 use Rattle.books.specs.Standard.{automaton, holds}
 use Rattle.books.specs.StandardRule.{standard_rule}
 use Rattle.tray.specs.Asked.{asked, SameBookState}
@@ -33,7 +33,7 @@ abbrev pub exactly : Automaton
 exactly = automaton 1
 
 -- a run over place columns stays among the states
-stays : (a : Automaton) (h : List ℕ → Type 0) → rule.Decides a h → (s : ℕ) (v : List ℕ) → s < a.states → Columns a.places v → run a.step s v < a.states
+stays : (a : Automaton) (h : List ℕ → Type 0) → Recognizes a h → (s : ℕ) (v : List ℕ) → s < a.states → Columns a.places v → run a.step s v < a.states
 stays a h d s [] inside cs = inside
 stays a h d s (c ∷ v) inside cs = stays a h d (a.step s c) v (d.step s c inside cs.0) cs.1
 
@@ -64,7 +64,7 @@ module _ (n i : ℕ) (there : i < n) (L : List ℕ → Bool) (means : (w : List 
   unfolding exactly
   says k =
       same_from_decides (L (times k (only i))) (language (asked exactly (i ∷ [])) (times k (only i))) (means (times k (only i)) (times_columns n i k there))
-      (asked_means exactly (i ∷ []) (holds 1) (standard_rule.decides 1 (omega arith)) refl (times k (only i)))
+      (asked_means exactly (i ∷ []) (holds 1) (standard_rule.recognizes 1 (omega arith)) refl (times k (only i)))
       ∙ ap exactly.accepts (through_run exactly.step (i ∷ []) exactly.start (times k (only i)))
       ∙ ap (accepted exactly) (times_read i k)
 
@@ -104,12 +104,12 @@ pub not_four : (n i : ℕ) → MoreThan n (SameBookState exactly (i ∷ [])) 3 �
 unfolding exactly
 not_four n i more =
     pigeons 3 (λ j. run exactly.step exactly.start (map (through (i ∷ [])) (more.word j)))
-    (λ j h. stays exactly (holds 1) (standard_rule.decides 1 (omega arith)) exactly.start (map (through (i ∷ [])) (more.word j)) (omega arith) (through_columns (i ∷ []) (more.word j)))
+    (λ j h. stays exactly (holds 1) (standard_rule.recognizes 1 (omega arith)) exactly.start (map (through (i ∷ [])) (more.word j)) (omega arith) (through_columns (i ∷ []) (more.word j)))
     (λ j k hj hk e. more.different j k (omega arith) (omega arith) e)
 
 -- what the book's `one` accepts, read through set i
 pub one_means : (i : ℕ) (w : List ℕ) → Decides (language (asked exactly (i ∷ [])) w) (Singleton (coded i w))
-one_means i w = asked_means exactly (i ∷ []) (holds 1) (standard_rule.decides 1 (omega arith)) refl w
+one_means i w = asked_means exactly (i ∷ []) (holds 1) (standard_rule.recognizes 1 (omega arith)) refl w
 
 -- an exploration with room for three states meets three, and its table has three
 pub single_counts : (n i : ℕ) (L : List ℕ → Bool) (rows : List ℕ) (met size : ℕ) → i < n → met ≤ 3 → size ≤ met → TableOf n L rows size

@@ -51,7 +51,7 @@ pub sub_row : RowHolds (row (codes "sub A B") 2 SomeSets 2 (Some []) (Some (1 �
 sub_row = (
   atom 0 0 two_spots,
   record { spells = refl; fits = (omega arith, two_fit) },
-  some_judged 2 2 sub_rows holds (atom 0 0 two_spots) (holds 0) (standard_rule.decides 0 (omega arith))
+  some_judged 2 2 sub_rows holds (atom 0 0 two_spots) (holds 0) (standard_rule.recognizes 0 (omega arith))
       (atom_satisfied 0 0 two_spots refl two_codes)
       ([] ∷ (1 ∷ []) ∷ []) ([] ∷ []) [] (1 ∷ []) refl refl refl refl,
 )
@@ -65,7 +65,7 @@ pub one_row : RowHolds (row (codes "one A") 1 SomeSets 3 (Some (1 ∷ [])) (Some
 one_row = (
   atom 0 1 one_spot,
   record { spells = refl; fits = (omega arith, all_of (λ x. x.set < 1) one_spot (omega arith, tt)) },
-  some_judged 1 3 one_rows holds (atom 0 1 one_spot) (holds 1) (standard_rule.decides 1 (omega arith))
+  some_judged 1 3 one_rows holds (atom 0 1 one_spot) (holds 1) (standard_rule.recognizes 1 (omega arith))
       (atom_satisfied 0 1 one_spot refl (λ w. all_of (λ x. coded x.set w ≡ as_set (letters_of w) x) one_spot (refl, tt)))
       ([] ∷ (1 ∷ []) ∷ (1 ∷ 1 ∷ []) ∷ []) ([] ∷ (1 ∷ []) ∷ []) (1 ∷ []) [] refl refl refl refl,
 )
@@ -76,7 +76,7 @@ pub suc_row : RowHolds (row (codes "suc A B") 2 SomeSets 4 (Some (1 ∷ 2 ∷ []
 suc_row = (
   atom 0 2 two_spots,
   record { spells = refl; fits = (omega arith, two_fit) },
-  some_judged 2 4 suc_rows holds (atom 0 2 two_spots) (holds 2) (standard_rule.decides 2 (omega arith))
+  some_judged 2 4 suc_rows holds (atom 0 2 two_spots) (holds 2) (standard_rule.recognizes 2 (omega arith))
       (atom_satisfied 0 2 two_spots refl two_codes)
       ([] ∷ (1 ∷ []) ∷ (1 ∷ 2 ∷ []) ∷ (2 ∷ []) ∷ []) ([] ∷ (2 ∷ []) ∷ (1 ∷ 2 ∷ []) ∷ []) (1 ∷ 2 ∷ []) [] refl refl refl refl,
 )
@@ -90,7 +90,7 @@ pub sum_row : RowHolds (row (codes "sum A B C") 3 SomeSets 3 (Some []) (Some (1 
 sum_row = (
   atom 0 4 three_spots,
   record { spells = refl; fits = (omega arith, all_of (λ x. x.set < 3) three_spots (omega arith, (omega arith, (omega arith, tt)))) },
-  some_judged 3 3 sum_rows holds (atom 0 4 three_spots) (holds 4) (standard_rule.decides 4 (omega arith))
+  some_judged 3 3 sum_rows holds (atom 0 4 three_spots) (holds 4) (standard_rule.recognizes 4 (omega arith))
       (atom_satisfied 0 4 three_spots refl
       (λ w. all_of (λ x. coded x.set w ≡ as_set (letters_of w) x) three_spots (refl, (refl, (refl, tt)))))
       ([] ∷ (3 ∷ []) ∷ (1 ∷ []) ∷ []) ([] ∷ (4 ∷ []) ∷ []) [] (1 ∷ []) refl refl refl refl,

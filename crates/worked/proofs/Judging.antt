@@ -10,7 +10,7 @@ use Rattle.words.specs.Rows.{written}
 use Rattle.words.proofs.Coding.{columns_append}
 use Rattle.words.proofs.Deciding.{tests, tested}
 use Rattle.words.proofs.Runs.{run_append}
-use Rattle.books.specs.Rule.{Decides}
+use Rattle.books.specs.Rule.{Recognizes}
 use Rattle.judging.specs.Earliest.{Earliest}
 use Rattle.judging.specs.declared.verdict.Verdict.{Verdict}
 use Rattle.judging.specs.declared.verdict.Verdict.TheVariants.{NoSets, SomeSets, AllSets}
@@ -53,11 +53,11 @@ nothing_first (c ∷ v) = inr (inl (omega arith))
 
 -- ---- by an automaton
 
--- The automaton decides R, which says which words serve.
-module _ (n k : ℕ) (rows : List ℕ) (Serves R : List ℕ → Type 0) (decides : Decides (written n k rows) R)
+-- The automaton recognizes R, which says which words serve.
+module _ (n k : ℕ) (rows : List ℕ) (Serves R : List ℕ → Type 0) (recognizes : Recognizes (written n k rows) R)
     (serves : (w : List ℕ) → Serves w ↔ R (sets n w)) where
   tells : (w : List ℕ) → Columns n w → (from n k rows 0 w ≡ true) ↔ Serves w
-  tells w cs = ((λ e. (serves w).1 ((decides.means w cs).0 e)), (λ s. (decides.means w cs).1 ((serves w).0 s)))
+  tells w cs = ((λ e. (serves w).1 ((recognizes.means w cs).0 e)), (λ s. (recognizes.means w cs).1 ((serves w).0 s)))
 
   fails : (w : List ℕ) → Columns n w → (from n k rows 0 w ≡ false) ↔ (Serves w → ⊥)
   fails w cs = (
@@ -67,7 +67,7 @@ module _ (n k : ℕ) (rows : List ℕ) (Serves R : List ℕ → Type 0) (decides
 
   stays : (w : List ℕ) (s : ℕ) → s < k → Columns n w → run (step n k rows) s w < k
   stays [] s h cs = h
-  stays (c ∷ w) s h cs = stays w (step n k rows s c) (decides.step s c h cs.0) cs.1
+  stays (c ∷ w) s h cs = stays w (step n k rows s c) (recognizes.step s c h cs.0) cs.1
 
   -- words that lead to the states, in their order; and words among which each two states have one that tells them apart
   module _ (words telling : List (List ℕ)) where
@@ -122,7 +122,7 @@ module _ (n k : ℕ) (rows : List ℕ) (Serves R : List ℕ → Type 0) (decides
         different = one_state;
         every = λ w cs.
             let j : ℕ = run (step n k rows) 0 w in
-            let within : j < k = stays w 0 decides.start cs in
+            let within : j < k = stays w 0 recognizes.start cs in
             let there = word_reaches j within in (
               j,
               within,
@@ -150,19 +150,19 @@ module _ (n k : ℕ) (rows : List ℕ) (Serves R : List ℕ → Type 0) (decides
 
 -- A claim that some sets satisfy and some do not. The words lead to the states in their order, those after them tell the states apart,
 -- and the last two are the earliest that satisfies the claim and the earliest that fails it. All four are tests that compute.
-pub some_judged : (n k : ℕ) (rows : List ℕ) (holds : ℕ → List ℕ → Type 0) (f : Claim) (R : List ℕ → Type 0) (decides : Decides (written n k rows) R)
+pub some_judged : (n k : ℕ) (rows : List ℕ) (holds : ℕ → List ℕ → Type 0) (f : Claim) (R : List ℕ → Type 0) (recognizes : Recognizes (written n k rows) R)
     (serves : (w : List ℕ) → Satisfied holds f w ↔ R (sets n w)) (words telling : List (List ℕ)) (w v : List ℕ)
-    → reached n k rows (Satisfied holds f) R decides serves words telling ≡ true
-    → different n k rows (Satisfied holds f) R decides serves words telling ≡ true
+    → reached n k rows (Satisfied holds f) R recognizes serves words telling ≡ true
+    → different n k rows (Satisfied holds f) R recognizes serves words telling ≡ true
     → is_earliest n k rows true w ≡ true → is_earliest n k rows false v ≡ true
     → JudgedClaim n holds f SomeSets k (Some w) (Some v)
-some_judged n k rows holds f R decides serves words telling w v reach differ first last =
-    let good = earliest_serving n k rows (Satisfied holds f) R decides serves w first in
-    let bad = earliest_failing n k rows (Satisfied holds f) R decides serves v last in
+some_judged n k rows holds f R recognizes serves words telling w v reach differ first last =
+    let good = earliest_serving n k rows (Satisfied holds f) R recognizes serves w first in
+    let bad = earliest_failing n k rows (Satisfied holds f) R recognizes serves v last in
     record {
       none = neither (λ e. false≢true (ap is_no e)) (λ none. none good.serves.0 good.serves.2);
       all = neither (λ e. false≢true (ap is_all e)) (λ all. bad.serves (all v bad.columns));
-      residuals = residuals n k rows (Satisfied holds f) R decides serves words telling reach differ;
+      residuals = residuals n k rows (Satisfied holds f) R recognizes serves words telling reach differ;
       satisfies = good;
       fails = bad;
       no_witness = neither true_or_false (λ e. false≢true (ap is_no e));

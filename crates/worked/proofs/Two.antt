@@ -7,9 +7,9 @@ use Rattle.words.specs.Words.{coded}
 use Rattle.words.specs.Relations.{Singleton, Binary}
 use Rattle.words.specs.Rows.{written}
 use Rattle.words.proofs.Reading.{empty_of_zero, empty_0, empty_1, only_of_zero, singleton_0, singleton_1}
-use Rattle.books.specs.Rule.{Decides}
+use Rattle.books.specs.Rule.{Recognizes}
 use Rattle.books.specs.Standard.{holds}
-use Rattle.books.specs.WrittenRule.{written_decides}
+use Rattle.books.specs.WrittenRule.{written_recognizes}
 use Rattle.judging.specs.declared.verdict.Verdict.TheVariants.{SomeSets}
 use Rattle.grammar.specs.declared.step.Spot.{Spot}
 use Rattle.grammar.specs.Claims.{Claim, atom, and}
@@ -100,8 +100,8 @@ zero_lone s = only_of_zero s.0 s.1
 lost : ⊥ ↔ ⊥
 lost = ((λ none. none), (λ none. none))
 
-two_decides : Decides (written 2 5 two_rows) (TwoState 0)
-two_decides = written_decides 2 5 two_rows TwoState (omega arith) (omega arith) refl (
+two_recognizes : Recognizes (written 2 5 two_rows) (TwoState 0)
+two_recognizes = written_recognizes 2 5 two_rows TwoState (omega arith) (omega arith) refl (
   failing (λ h. zero_lone h.0),
   (
     failing (λ h. zero_lone h.1),
@@ -148,7 +148,7 @@ two_row = (
       (omega arith, all_of (λ x. x.set < 2) (spot 12 66 1 ∷ []) (omega arith, tt)),
     );
   },
-  some_judged 2 5 two_rows holds both_one (TwoState 0) two_decides two_satisfied
+  some_judged 2 5 two_rows holds both_one (TwoState 0) two_recognizes two_satisfied
       ([] ∷ (1 ∷ []) ∷ (2 ∷ []) ∷ (3 ∷ []) ∷ (1 ∷ 1 ∷ []) ∷ []) ([] ∷ (1 ∷ []) ∷ (2 ∷ []) ∷ (3 ∷ []) ∷ [])
       (3 ∷ []) [] refl refl refl refl,
 )

@@ -44,7 +44,7 @@ invariant_of-self-2-clause-live g c =
     let landed : Lands k.sets k.budget (k.count * slot k) (SameBookState a listed) Means t.tables.now c.land.new.tables met size =
     lands k.sets k.budget (k.count * slot k) (SameBookState a listed) Means (language (asked a listed)) (drop (slot k) c.explore.new.spare) t.tables.now c.land.new.tables met size
     found.0 found.1 counted found.3 c.land.ensures.copied c.land.ensures.elsewhere
-    (λ w _. asked_means a listed holds ((g.B.Book.rule c.args.book.now).decides c.args.predicate below) places w) in
+    (λ w _. asked_means a listed holds ((g.B.Book.rule c.args.book.now).recognizes c.args.predicate below) places w) in
     let call = landed_call t k.count (SameBookState a listed) Means high (omega arith) (listed_moves k.sets holds listed (all_there k.sets listed pass.1.1.1.0))
     c.land.new.tables met size landed c.land.new.self c.land.ensures.control in
     call.0
@@ -68,7 +68,7 @@ returns-clause-places g c =
     let landed : Lands k.sets k.budget (k.count * slot k) (SameBookState a listed) Means t.tables.now c.land.new.tables met size =
     lands k.sets k.budget (k.count * slot k) (SameBookState a listed) Means (language (asked a listed)) (drop (slot k) c.explore.new.spare) t.tables.now c.land.new.tables met size
     found.0 found.1 counted found.3 c.land.ensures.copied c.land.ensures.elsewhere
-    (λ w _. asked_means a listed holds ((g.B.Book.rule c.args.book.now).decides c.args.predicate below) places w) in
+    (λ w _. asked_means a listed holds ((g.B.Book.rule c.args.book.now).recognizes c.args.predicate below) places w) in
     let call = landed_call t k.count (SameBookState a listed) Means high (omega arith) (listed_moves k.sets holds listed (all_there k.sets listed pass.1.1.1.0))
     c.land.new.tables met size landed c.land.new.self c.land.ensures.control in
     accepted
