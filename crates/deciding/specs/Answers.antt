@@ -2,6 +2,7 @@
 use Rattle.std.specs.Prelude.{◌≡◌, ℕ, ◌+◌, ◌-◌, ◌*◌, ◌<◌, ◌⊎◌, List, [], ◌∷◌, ◌++◌, Option, Ok, Err, Result}
 use Rattle.words.specs.Automata.{Automaton}
 use Rattle.words.specs.Rows.{width}
+use Rattle.checks.specs.Layers.{layer_of}
 use Rattle.judging.specs.Judged.{Judged as JudgedWords}
 use Rattle.tray.specs.Checks.{FirstFailed, AllPass}
 use Rattle.tray.specs.View.{says}
@@ -13,7 +14,7 @@ use Rattle.grammar.specs.Steps.{all_steps}
 use Rattle.reading.specs.Building.{AllMade}
 use Rattle.reading.specs.Judging.{JudgedClaim}
 use Rattle.reading.specs.Reading.{RefusedFor}
-use Rattle.reading.specs.Reasons.{reason_number, layer_of}
+use Rattle.reading.specs.Reasons.{reason_number}
 use Rattle.reading.specs.Stepping.{terms_of}
 use Rattle.reading.specs.declared.fault.Fault.{Fault}
 use Rattle.deciding.specs.Printed.{word_at, answer_text}

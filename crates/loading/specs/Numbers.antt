@@ -1,5 +1,6 @@
--- The number of each reason why a saved table is not loaded, and what is printed of it.
+-- The number and the layer of each reason why a saved table is not loaded, and what is printed of it.
 use Rattle.std.specs.Prelude.{ℕ, List, codes}
+use Rattle.checks.specs.Layers.{layer_of}
 use Rattle.loading.specs.declared.unloaded.Unloaded.{Unloaded}
 use Rattle.loading.specs.declared.unloaded.Unloaded.TheVariants.{NoMemory, NoName, WrongNames, WrongLine, NoState, Unsettled, NoRow, Full}
 
@@ -12,6 +13,9 @@ number_of NoState = 18
 number_of Unsettled = 19
 number_of NoRow = 24
 number_of Full = 25
+
+abbrev pub unloaded_layer : Unloaded → ℕ
+unloaded_layer why = layer_of (number_of why)
 
 abbrev pub unloaded_text : Unloaded → List ℕ
 unloaded_text NoMemory = codes "memory that the call was given is too short"

@@ -1,7 +1,8 @@
 //! Why a saved table is not loaded.
 ghost use Rattle.std.specs.Prelude.{◌≡◌};
-ghost use Rattle.loading.specs.Numbers.{number_of};
+ghost use Rattle.loading.specs.Numbers.{number_of, unloaded_layer};
 
+use checks::layer_of;
 use std::error::Error;
 use std::fmt;
 
@@ -32,6 +33,13 @@ impl Unloaded {
         ensures { result ≡ number_of self }
     {
         self as u8
+    }
+
+    /// The layer of the check.
+    pub fn layer(self) -> u8
+        ensures { result ≡ unloaded_layer self }
+    {
+        layer_of(self.number())
     }
 }
 

@@ -1,7 +1,8 @@
 //! Why a text is refused.
 ghost use Rattle.std.specs.Prelude.{◌≡◌};
-ghost use Rattle.reading.specs.Reasons.{reason_number, layer_of};
+ghost use Rattle.reading.specs.Reasons.{reason_number, reason_layer};
 
+use checks::layer_of;
 use grammar::{Flaw, Flawed};
 use tray::Refusal;
 
@@ -32,13 +33,9 @@ impl Reason {
 
     /// The layer of the check: 1 for the bytes, 2 for the grammar, and 3 for memory and the tray.
     pub fn layer(self) -> u8
-        ensures { result ≡ layer_of (reason_number self) }
+        ensures { result ≡ reason_layer self }
     {
-        match self.number() {
-            9 | 10 | 16 | 17 => 1,
-            11..=15 => 2,
-            _ => 3,
-        }
+        layer_of(self.number())
     }
 }
 
