@@ -1,4 +1,7 @@
 pub mod Lists
+pub mod Machines
+pub mod Gathered
+pub mod Passing
 pub mod Testing
 pub mod Judging
 pub mod Atoms

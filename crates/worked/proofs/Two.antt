@@ -1,11 +1,13 @@
 -- The claim that each of two sets has exactly one member, by an automaton that knows which of them have had theirs.
 use Rattle.std.proofs.Common.{◌≡◌, ℕ, zero, suc, ◌+◌, ◌*◌, ◌<◌, Bool, true, false, ◌↔◌, List, [], ◌∷◌, sym, refl, subst, arith}
-use Rattle.std.specs.Prelude.{Some, codes}
+use Rattle.std.specs.Prelude.{Some, codes, slice_index}
 use Rattle.std.proofs.lemmas.Bool.{false≢true}
 use Rattle.words.specs.Sets.{Empty}
 use Rattle.words.specs.Words.{coded}
 use Rattle.words.specs.Relations.{Singleton, Binary}
+use Rattle.words.specs.Formulas.{placed}
 use Rattle.words.specs.Rows.{written}
+use Rattle.words.proofs.Deciding.{each}
 use Rattle.words.proofs.Reading.{empty_of_zero, empty_0, empty_1, only_of_zero, singleton_0, singleton_1}
 use Rattle.books.specs.Rule.{Recognizes}
 use Rattle.books.specs.Standard.{holds}
@@ -18,6 +20,8 @@ use Rattle.worked.specs.Rows.{row, RowHolds}
 use Rattle.worked.proofs.Atoms.{spot, letters_of}
 use Rattle.worked.proofs.Judging.{some_judged}
 use Rattle.worked.proofs.Lists.{all_of, of_all}
+use Rattle.worked.proofs.Machines.{reader, reader_knows}
+use Rattle.worked.proofs.Passing.{place_passes, both_passes}
 
 -- no member yet; A has its member; B has its member; both; one has two
 abbrev two_rows : List ℕ
@@ -138,17 +142,32 @@ two_satisfied w = (
 )
 
 pub two_row : RowHolds (row (codes "& one A one B") 2 SomeSets 5 (Some (3 ∷ [])) (Some []))
-two_row = (
-  both_one,
-  record {
+two_row = record {
+  faultless = refl;
+  claim = both_one;
+  reads = record {
     spells = refl;
     fits = (
       omega arith,
       (omega arith, all_of (λ x. x.set < 2) (spot 6 65 0 ∷ []) (omega arith, tt)),
       (omega arith, all_of (λ x. x.set < 2) (spot 12 66 1 ∷ []) (omega arith, tt)),
     );
-  },
-  some_judged 2 5 two_rows holds both_one (TwoState 0) two_recognizes two_satisfied
+  };
+  accepted = (
+    place_passes 2 [] (omega arith) 1 (omega arith) (0 ∷ []) refl (each 1 (λ j. slice_index (0 ∷ []) j < 2) (omega arith, tt)) (omega arith),
+    (
+      place_passes 2 (placed 1 (0 ∷ []) ∷ []) (omega arith) 1 (omega arith) (1 ∷ []) refl
+          (each 1 (λ j. slice_index (1 ∷ []) j < 2) (omega arith, tt)) (omega arith),
+      (
+        both_passes 2 (placed 1 (0 ∷ [])) (placed 1 (1 ∷ []))
+            (reader 2 1 (0 ∷ []) (omega arith) refl) (reader 2 1 (1 ∷ []) (omega arith) refl)
+            (reader_knows 2 1 (0 ∷ []) (omega arith) refl) (reader_knows 2 1 (1 ∷ []) (omega arith) refl) (omega arith),
+        tt,
+      ),
+    ),
+  );
+  judged =
+      some_judged 2 5 two_rows holds both_one (TwoState 0) two_recognizes two_satisfied
       ([] ∷ (1 ∷ []) ∷ (2 ∷ []) ∷ (3 ∷ []) ∷ (1 ∷ 1 ∷ []) ∷ []) ([] ∷ (1 ∷ []) ∷ (2 ∷ []) ∷ (3 ∷ []) ∷ [])
-      (3 ∷ []) [] refl refl refl refl,
-)
+      (3 ∷ []) [] refl refl refl refl;
+}
