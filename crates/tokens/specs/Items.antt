@@ -5,6 +5,10 @@ use Rattle.tokens.specs.Pieces.{pieces}
 use Rattle.tokens.specs.Senses.{sense_of, seen_after}
 use Rattle.tokens.specs.declared.item.Item.{Item}
 
+-- the most bytes that a text may have
+abbrev pub longest : ℕ
+longest = 1024
+
 module _ (numbered : List ℕ → Option ℕ) (a : ℕ → Automaton) where
   -- the items of pieces, where these letters have appeared before them
   abbrev pub items_from : List ℕ → List (ℕ × List ℕ) → List Item
@@ -20,6 +24,6 @@ module _ (numbered : List ℕ → Option ℕ) (a : ℕ → Automaton) where
   -- memory, and the memory behind them is as it was. With any other, nothing is written.
   abbrev pub Lists : List ℕ → List Item → List Item → Option ℕ → Type 0
   Lists text items items' (Some k) =
-      (length text ≤ 1024) × (length text ≤ length items)
+      (length text ≤ longest) × (length text ≤ length items)
       × (k ≡ length (items_of text)) × (take k items' ≡ items_of text) × (drop k items' ≡ drop k items)
-  Lists text items items' None = ((1024 < length text) ⊎ (length items < length text)) × (items' ≡ items)
+  Lists text items items' None = ((longest < length text) ⊎ (length items < length text)) × (items' ≡ items)

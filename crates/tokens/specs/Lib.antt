@@ -2,4 +2,5 @@ pub mod Marks
 pub mod Pieces
 pub mod Numbering
 pub mod Senses
+pub mod Tokens
 pub mod Items

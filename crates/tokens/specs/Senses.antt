@@ -1,12 +1,10 @@
 -- What a piece of a text is: a mark, a name, a variable, or no token.
-use Rattle.std.specs.Prelude.{◌≡◌, ℕ, Bool, true, false, cond, ◌&&◌, List, [], ◌∷◌, Some, None, Option, length}
+use Rattle.std.specs.Prelude.{ℕ, Bool, false, cond, ◌&&◌, List, [], ◌∷◌, Some, None, Option}
 use Rattle.std.specs.Char.{is_ascii_alphabetic, is_ascii_lowercase}
 use Rattle.words.specs.Automata.{Automaton}
 use Rattle.tokens.specs.Marks.{mark_of}
 use Rattle.tokens.specs.Numbering.{set_of, noted}
 use Rattle.tokens.specs.declared.mark.Mark.{Mark}
-use Rattle.tokens.specs.declared.token.Token.{Token}
-use Rattle.tokens.specs.declared.token.Token.TheVariants.{Mark as mark-token, Name as name-token, Variable as variable-token}
 use Rattle.tokens.specs.declared.item.Sense.{Sense}
 use Rattle.tokens.specs.declared.item.Sense.TheVariants.{Mark as mark, Predicate, Unknown, Variable, Wrong}
 
@@ -17,13 +15,6 @@ is_name (a ∷ []) = false
 is_name (a ∷ (b ∷ [])) = false
 is_name (a ∷ (b ∷ (c ∷ []))) = is_ascii_lowercase a && (is_ascii_lowercase b && is_ascii_lowercase c)
 is_name (a ∷ (b ∷ (c ∷ (d ∷ bs)))) = false
-
--- the token that a piece is, if any: one letter, one other byte, or a name
-abbrev pub reads_as : List ℕ → Option Token → Type 0
-reads_as bytes None = (length bytes ≡ 1 → ⊥) × (is_name bytes ≡ false)
-reads_as bytes (Some (mark-token b)) = (bytes ≡ b.now ∷ []) × (is_ascii_alphabetic b.now ≡ false)
-reads_as bytes (Some (variable-token b)) = (bytes ≡ b.now ∷ []) × (is_ascii_alphabetic b.now ≡ true)
-reads_as bytes (Some (name-token name)) = (bytes ≡ name.now) × (is_name bytes ≡ true)
 
 -- what a byte that is no letter is, by its mark
 abbrev pub sense_of_mark : Option Mark → Sense

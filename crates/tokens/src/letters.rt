@@ -15,7 +15,7 @@ pub(crate) struct Letters {
 impl Letters {
     // Where a letter is among those that have appeared.
     fn find(&self, letter: u8) -> Option<usize>
-        requires { self.now.many ≤ 1024 }
+        requires { self.now.many ≤ LONGEST }
         ensures { result ≡ position (λ known. known == letter) (take self.now.many self.now.seen) }
     {
         self.seen[..self.many]
@@ -25,7 +25,7 @@ impl Letters {
 
     // The set of a letter: its own, if it has appeared, or the next.
     pub(crate) fn set_of(&mut self, letter: u8) -> u16
-        requires { self.old.many < 1024 }
+        requires { self.old.many < LONGEST }
         ensures set { result ≡ set_of letter (take self.old.many self.old.seen) }
         ensures seen { take self.new.many self.new.seen ≡ noted letter (take self.old.many self.old.seen) }
         ensures few { self.new.many ≤ self.old.many + 1 }

@@ -10,6 +10,7 @@ mod token;
 pub use item::{Item, Sense};
 pub use listing::{LONGEST, list_items};
 pub use mark::Mark;
+pub use token::{NoToken, Part, Token, next_token};
 
 #[cfg(test)]
 mod tests;

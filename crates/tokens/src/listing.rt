@@ -1,12 +1,12 @@
 //! Listing the items of a text.
 ghost use Rattle.std.specs.Prelude.{◌≡◌, ◌+◌, ◌<◌, ◌≤◌, take};
 ghost use Rattle.tokens.specs.Senses.{sense_of_number, sense_of, seen_after};
+ghost use Rattle.tokens.specs.Tokens.{bytes_of, IsRead};
 ghost use Rattle.tokens.specs.Items.{Lists};
 
 use crate::item::{Item, Sense};
 use crate::letters::Letters;
-use crate::mark::Mark;
-use crate::token::{Token, token_begin, token_end, token_of};
+use crate::token::{NoToken, Token, next_token, place_of};
 use books::NamedBook;
 
 /// The most bytes that a text may have.
@@ -25,24 +25,26 @@ fn sense_of_name<B: NamedBook>(book: &B, name: &[u8]) -> Sense
     }
 }
 
-// What a piece is to a book, where these letters have appeared before it. A letter joins them.
-fn sense<B: NamedBook>(book: &B, piece: &[u8], letters: &mut Letters) -> Sense
-    requires { letters.old.many < 1024 }
-    ensures sense { result ≡ sense_of (B.NamedBook.numbered book.now) (B.Book.automaton book.now) (take letters.old.many letters.old.seen) piece.now }
-    ensures seen { take letters.new.many letters.new.seen ≡ seen_after (take letters.old.many letters.old.seen) piece.now }
+// What a part of a text is to a book, where these letters have appeared before it. A letter joins them.
+fn sense<B: NamedBook>(
+    book: &B,
+    token: Result<Token<'_>, NoToken<'_>>,
+    letters: &mut Letters,
+) -> Sense
+    requires few { letters.old.many < LONGEST }
+    requires read { IsRead token }
+    ensures sense { result ≡ sense_of (B.NamedBook.numbered book.now) (B.Book.automaton book.now) (take letters.old.many letters.old.seen) (bytes_of token.entry) }
+    ensures seen { take letters.new.many letters.new.seen ≡ seen_after (take letters.old.many letters.old.seen) (bytes_of token.entry) }
     ensures few { letters.new.many ≤ letters.old.many + 1 }
 {
-    match token_of(piece) {
-        None => Sense::Wrong,
-        Some(Token::Mark(byte)) => match Mark::of(char::from(*byte)) {
-            Some(mark) => Sense::Mark(mark),
-            None => Sense::Wrong,
-        },
-        Some(Token::Name(name)) => sense_of_name(book, name),
-        Some(Token::Variable(letter)) => Sense::Variable {
+    match token {
+        Ok(Token::Mark { mark, .. }) => Sense::Mark(mark),
+        Ok(Token::Name { name, .. }) => sense_of_name(book, name),
+        Ok(Token::Variable { letter, .. }) => Sense::Variable {
             letter: *letter,
             set: letters.set_of(*letter),
         },
+        Err(_) => Sense::Wrong,
     }
 }
 
@@ -60,15 +62,14 @@ pub fn list_items<B: NamedBook>(book: &B, text: &[u8], items: &mut [Item]) -> Op
         many: 0,
     };
     let mut count = 0;
-    let mut at = token_begin(text, 0);
-    while at < text.len() {
-        let end = token_end(text, at);
+    let mut at = 0;
+    while let Some(part) = next_token(text, at) {
         items[count] = Item {
-            place: at as u16,
-            sense: sense(book, &text[at..end], &mut letters),
+            place: place_of(part.token) as u16,
+            sense: sense(book, part.token, &mut letters),
         };
         count += 1;
-        at = token_begin(text, end);
+        at = part.end;
     }
     Some(count)
 }

@@ -53,6 +53,37 @@ fn lists(text: &[u8], wanted: &[Item]) -> bool {
     }
 }
 
+// The tokens of a text, each from the end of the one before.
+#[test]
+fn tokens_in_a_row(rt: HostRuntime) {
+    let text = b"sub  A\n&abcd";
+    let name = Token::Name {
+        place: 0,
+        name: b"sub",
+    };
+    let variable = Token::Variable {
+        place: 5,
+        letter: &b'A',
+    };
+    let mark = Token::Mark {
+        place: 7,
+        byte: &b'&',
+        mark: Mark::Both,
+    };
+    let wrong = NoToken {
+        place: 8,
+        bytes: b"abcd",
+    };
+    let next = |token, end| Some(Part { token, end });
+    assert_eq!(rt; next_token(text, 0), next(Ok(name), 3));
+    assert_eq!(rt; next_token(text, 3), next(Ok(variable), 6));
+    assert_eq!(rt; next_token(text, 6), next(Ok(mark), 8));
+    assert_eq!(rt; next_token(text, 8), next(Err(wrong), 12));
+    assert_eq!(rt; next_token(text, 12), None);
+    assert_eq!(rt; next_token(b"A \n", 1), None);
+    assert_eq!(rt; next_token(b"A", 7), None);
+}
+
 #[test]
 fn no_piece(rt: HostRuntime) {
     for text in [b"".as_slice(), b" ", b"\n", b"  \n \n\n "] {
