@@ -2,7 +2,7 @@
 use crate::desk::{Desk, NUMBERS, call_of};
 use crate::dot::tell_graph;
 use crate::drawing::tell_word;
-use crate::fault::{fault_of, tell_fault, tell_reason};
+use crate::fault::{tell_fault, tell_reason};
 use crate::letters::{Letters, Listed, letters_of};
 use crate::line::{Blanks, OneLine};
 use crate::naming::Named;
@@ -135,7 +135,7 @@ fn tell_step(
         }
         Reply::Refused(why) => {
             println!(rt; "refused")?;
-            Ok(Some(fault_of(why, place)))
+            Ok(Some(Fault::of_call(why, place)))
         }
         Reply::Dropped | Reply::Saved(_) | Reply::Judged(_) => {
             println!(rt; "done")?;

@@ -1,14 +1,8 @@
 //! Why a question or a text is refused.
-ghost use Rattle.std.specs.Prelude.{◌≡◌};
-ghost use Rattle.tray.specs.Refusals.{number_of};
-ghost use Rattle.reading.specs.Building.{refused_place};
-ghost use Rattle.reading.specs.declared.fault.Reason.TheVariants.{Call as call};
-
 use crate::line::{Blanks, OneLine};
 use deciding::Unread;
 use reading::{Fault, Reason};
 use std::{fmt, io};
-use tray::Refusal;
 
 // A reason as a sentence.
 #[derive(Clone, Copy)]
@@ -32,22 +26,6 @@ pub fn tell_unread(rt: &impl Print, why: Unread) -> io::Result<()> {
         Unread::Values => println!(rt;
             "refused (17, layer 1): the second line is not three numbers up to 65,535, one space apart"
         ),
-    }
-}
-
-/// The fault of a call that is refused at a place of the text. Memory that is too short is no fault of the text,
-/// and has place 0.
-pub fn fault_of(why: Refusal, place: u16) -> Fault
-    ensures reason { result.reason ≡ call why }
-    ensures place { result.place ≡ refused_place (number_of why) place }
-{
-    let place = match why {
-        Refusal::NoMemory => 0,
-        _ => usize::from(place),
-    };
-    Fault {
-        reason: Reason::Call(why),
-        place,
     }
 }
 

@@ -34,7 +34,8 @@ use Rattle.grammar.specs.declared.step.Build.{Build}
 use Rattle.grammar.specs.declared.step.Build.TheVariants.{Place, Single, Negate, Both, Either, Hide}
 use Rattle.grammar.specs.Steps.{Call, place, single as single-call, negate, both as both-call, either as either-call, hide, call_of}
 use Rattle.reading.specs.Building.{puts, checks}
-use Rattle.reading.specs.Stepping.{Steps, Decided, Sure, StandsAbove, Counted, takes, terms_of}
+use Rattle.reading.specs.Formulas.{Decided}
+use Rattle.reading.specs.Stepping.{Steps, Sure, StandsAbove, Counted, takes, terms_of}
 use Rattle.reading.proofs.Rising.{told_now, stands_built}
 
 -- what a call on a pile comes to, in words of the pile

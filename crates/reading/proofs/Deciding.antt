@@ -5,7 +5,7 @@ use Rattle.words.specs.Formulas.{Formula, Names, Satisfies, Tells}
 use Rattle.words.specs.Words.{coded}
 use Rattle.words.proofs.Coding.{every_choice}
 use Rattle.words.proofs.Truths.{truth_local}
-use Rattle.reading.specs.Stepping.{Decided}
+use Rattle.reading.specs.Formulas.{Decided}
 
 cases_from_decides : (b : Bool) (P : Type 0) → Decides b P → P ⊎ (P → ⊥)
 cases_from_decides true P d = inl (d.0 refl)

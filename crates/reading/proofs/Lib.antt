@@ -13,5 +13,6 @@ pub mod Free
 pub mod Truths
 pub mod Positions
 pub mod Telling
+pub mod Raising
 pub mod Whole
 pub mod MeaningLaws

@@ -8,13 +8,15 @@ use Rattle.words.proofs.Coding.{every_choice}
 use Rattle.tokens.specs.Items.{items_of}
 use Rattle.tokens.specs.Numbering.{set_of}
 use Rattle.grammar.specs.Claims.{Claim, spelled, Fits, free}
+use Rattle.reading.specs.Formulas.{whole}
 use Rattle.reading.specs.Meaning.{as_set, Codes}
-use Rattle.reading.specs.MeaningLaws.{variables, MeaningLaws}
+use Rattle.reading.specs.MeaningLaws.{variables, MeaningLaws, WholeLaws}
 use Rattle.reading.proofs.Alone.{only_power}
 use Rattle.reading.proofs.Free.{free_all}
 use Rattle.reading.proofs.Lists.{all_joined}
 use Rattle.reading.proofs.Numbering.{Known, letters_of, known, letters_and_sets}
-use Rattle.reading.proofs.Telling.{fitting}
+use Rattle.reading.proofs.Telling.{fitting, means, same_residuals}
+use Rattle.reading.proofs.Truths.{sure_of_all}
 
 -- the word that codes, for each set, what its letter stands for
 some_word : (numbered : List ℕ → Option ℕ) (a : ℕ → Automaton) (n : ℕ) (text : List ℕ) (f : Claim) (v : ℕ → ℕ)
@@ -31,3 +33,9 @@ some_word numbered a n text f v spells fits =
 
 pub meaning_laws : MeaningLaws
 meaning_laws = record { alone = only_power; one_set = letters_and_sets; some_word = some_word }
+
+pub whole_laws : (holds : ℕ → List ℕ → Type 0) → WholeLaws holds
+whole_laws holds = record {
+  means = λ numbered a n text f spells fits decided. means numbered a holds n text f spells fits (sure_of_all holds decided (whole n f));
+  residuals = λ n f. same_residuals n holds f;
+}

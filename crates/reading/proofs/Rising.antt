@@ -8,7 +8,8 @@ use Rattle.tray.specs.View.{slot, says}
 use Rattle.tray.specs.declared.control.Control.{Control}
 use Rattle.calls.specs.Promise.{TellEach}
 use Rattle.calls.proofs.Standing.{tell_each_same}
-use Rattle.reading.specs.Stepping.{Decided, Sure, StandsAbove}
+use Rattle.reading.specs.Formulas.{Decided}
+use Rattle.reading.specs.Stepping.{Sure, StandsAbove}
 use Rattle.reading.proofs.Deciding.{tells_decided}
 use Rattle.reading.proofs.Keeping.{settings_itself, settings_chain, same_slot, tables_itself, tables_chain, below_itself}
 

@@ -1,5 +1,5 @@
--- A test that tells the whole formula of a claim tells whether the sets that a word codes satisfy the claim.
-use Rattle.std.proofs.Common.{◌≡◌, ℕ, ◌+◌, ◌^◌, ◌<◌, Bool, true, false, cond, List, [], get_or, Option, Decides, sym, refl, ap, ◌∙◌, subst}
+-- The words that satisfy the whole formula of a claim are those that satisfy the claim.
+use Rattle.std.proofs.Common.{◌≡◌, ℕ, ◌+◌, ◌^◌, ◌<◌, Bool, true, false, cond, ◌↔◌, List, [], ◌++◌, get_or, Option, Decides, sym, refl, ap, ◌∙◌, subst}
 use Rattle.std.specs.Prelude.{All}
 use Rattle.std.specs.Char.{is_ascii_lowercase}
 use Rattle.std.proofs.lemmas.Bool.{cond-true, false≢true}
@@ -7,14 +7,19 @@ use Rattle.std.proofs.lemmas.Bool.Decides.{Decides-like}
 use Rattle.std.proofs.lemmas.List.Elements.{All-cons, All-append, All-weaker}
 use Rattle.words.specs.Automata.{Automaton}
 use Rattle.words.specs.Formulas.{Truth, Tells}
+use Rattle.words.specs.Meanings.{SameAfter}
 use Rattle.words.specs.Relations.{Singleton}
+use Rattle.words.specs.Residuals.{Count}
 use Rattle.words.specs.Words.{Columns, coded}
+use Rattle.words.proofs.Coding.{columns_append}
+use Rattle.words.proofs.Pairing.{count_same}
 use Rattle.tokens.specs.Items.{items_of}
 use Rattle.tokens.specs.Numbering.{set_of}
 use Rattle.grammar.specs.declared.step.Spot.{Spot}
 use Rattle.grammar.specs.Claims.{Claim, atom, denial, and, or, implies, some, every, spelled, Fits, is_position, free}
 use Rattle.reading.specs.Formulas.{formula_of, whole}
-use Rattle.reading.specs.Meaning.{Meaning, Satisfied}
+use Rattle.reading.specs.Judging.{SameEnds}
+use Rattle.reading.specs.Meaning.{Meaning, Satisfied, WholeMeans}
 use Rattle.reading.specs.Stepping.{Sure}
 use Rattle.reading.proofs.Alone.{singleton_power, member_of, member_of_singleton}
 use Rattle.reading.proofs.Free.{free_all}
@@ -81,15 +86,36 @@ module _ (number name : ℕ → ℕ) (c : ℕ → ℕ) where
           All-weaker (Agree c m.0) (AloneBelow n c) (alone_agree m.0 n) (free [] f) m.1,
         )
 
--- The table of the whole formula accepts the words that code sets which satisfy the claim.
-pub means : (numbered : List ℕ → Option ℕ) (a : ℕ → Automaton) (holds : ℕ → List ℕ → Type 0) (n : ℕ) (text : List ℕ) (f : Claim) (L : List ℕ → Bool)
-    → items_of numbered a text ≡ spelled f [] → Fits n 0 f
-    → Sure holds (whole n f) → Tells n holds (whole n f) L
-    → (w : List ℕ) → Columns n w → Decides (L w) (Satisfied holds f w)
-means numbered a holds n text f L spells fits sure tells w columns =
+-- The whole formula means what the claim means.
+pub means : (numbered : List ℕ → Option ℕ) (a : ℕ → Automaton) (holds : ℕ → List ℕ → Type 0) (n : ℕ) (text : List ℕ) (f : Claim)
+    → items_of numbered a text ≡ spelled f [] → Fits n 0 f → Sure holds (whole n f) → WholeMeans n holds f
+means numbered a holds n text f spells fits sure w columns =
     let number : ℕ → ℕ = λ letter. set_of letter (letters_of text) in
     let name : ℕ → ℕ = λ set. get_or (letters_of text) set 0 in
     let c : ℕ → ℕ = λ i. coded i w in
     let knows = known numbered a text f spells in
     let small = fitting n 0 f fits in
-    Decides-like (L w) (meaning_of number name c holds n f knows small sure) (truth_of number name c holds n f knows small sure) (tells w columns)
+    (meaning_of number name c holds n f knows small sure, truth_of number name c holds n f knows small sure)
+
+module _ (n : ℕ) (holds : ℕ → List ℕ → Type 0) (f : Claim) (same : WholeMeans n holds f) where
+  -- The table of the whole formula accepts the words that code sets which satisfy the claim.
+  pub table_means : (L : List ℕ → Bool) → Tells n holds (whole n f) L → (w : List ℕ) → Columns n w → Decides (L w) (Satisfied holds f w)
+  table_means L tells w columns = Decides-like (L w) (same w columns).0 (same w columns).1 (tells w columns)
+
+  -- a word that completes two others to words of the formula completes them to words of the claim
+  pub same_residuals : (u w : List ℕ) → Columns n u → Columns n w → SameAfter n holds (whole n f) u w ↔ SameEnds n (Satisfied holds f) u w
+  same_residuals u w cu cw = (
+    (λ after v cv.
+        let here = same (u ++ v) (columns_append n u v cu cv) in
+        let there = same (w ++ v) (columns_append n w v cw cv) in
+        ((λ s. there.0 ((after v cv).0 (here.1 s))), (λ s. here.0 ((after v cv).1 (there.1 s))))),
+    (λ ends v cv.
+        let here = same (u ++ v) (columns_append n u v cu cv) in
+        let there = same (w ++ v) (columns_append n w v cw cv) in
+        ((λ t. there.1 ((ends v cv).0 (here.0 t))), (λ t. here.1 ((ends v cv).1 (there.0 t))))),
+  )
+
+  pub residual_count : (k : ℕ) → Count n (SameAfter n holds (whole n f)) k → Count n (SameEnds n (Satisfied holds f)) k
+  residual_count k =
+      count_same n (SameAfter n holds (whole n f)) (SameEnds n (Satisfied holds f)) k (λ u w cu cw. (same_residuals u w cu cw).0)
+      (λ u w cu cw. (same_residuals u w cu cw).1)

@@ -8,9 +8,9 @@ use Rattle.words.specs.Relations.{Singleton}
 use Rattle.words.specs.Formulas.{Formula, placed, single, negation, both, either, hidden, instead, Truth}
 use Rattle.grammar.specs.declared.step.Spot.{Spot}
 use Rattle.grammar.specs.Claims.{Claim, atom, denial, and, or, implies, some, every, is_position, among, free}
-use Rattle.reading.specs.Formulas.{lone, formula_of}
+use Rattle.reading.specs.Formulas.{lone, formula_of, Decided}
 use Rattle.reading.specs.Meaning.{as_set, Meaning}
-use Rattle.reading.specs.Stepping.{Decided, Sure}
+use Rattle.reading.specs.Stepping.{Sure}
 use Rattle.reading.proofs.Alone.{singleton_power, power_of_singleton}
 use Rattle.reading.proofs.Free.{among_cases, among_neither, Loose, loose}
 use Rattle.reading.proofs.Lists.{all_left, all_right, all_parted, all_joined}
@@ -68,6 +68,15 @@ module _ (holds : ℕ → List ℕ → Type 0) where
   decided_of (both f g) sure = sure.0
   decided_of (either f g) sure = sure.0
   decided_of (hidden i f) sure = sure.0
+
+  -- where every formula is decided, so is each part of one
+  pub sure_of_all : ((g : Formula) → Decided holds g) → (f : Formula) → Sure holds f
+  sure_of_all decided (placed p listed) = decided (placed p listed)
+  sure_of_all decided (single i) = decided (single i)
+  sure_of_all decided (negation f) = (decided (negation f), sure_of_all decided f)
+  sure_of_all decided (both f g) = (decided (both f g), sure_of_all decided f, sure_of_all decided g)
+  sure_of_all decided (either f g) = (decided (either f g), sure_of_all decided f, sure_of_all decided g)
+  sure_of_all decided (hidden i f) = (decided (hidden i f), sure_of_all decided f)
 
   sure_alone : (x : Spot) (f : Formula) → Sure holds (lone x f) → Sure holds f
   sure_alone x f = go (is_position x)

@@ -1,6 +1,6 @@
 -- The formula over numbered sets that a claim is built as.
-use Rattle.std.specs.Prelude.{ℕ, zero, suc, cond, List, [], map, Some, None, Option}
-use Rattle.words.specs.Formulas.{Formula, placed, single, negation, both, either, hidden}
+use Rattle.std.specs.Prelude.{ℕ, zero, suc, cond, ◌⊎◌, List, [], map, Some, None, Option}
+use Rattle.words.specs.Formulas.{Formula, placed, single, negation, both, either, hidden, Truth}
 use Rattle.grammar.specs.declared.step.Spot.{Spot}
 use Rattle.grammar.specs.Claims.{Claim, atom, denial, and, or, implies, some, every, is_position, free}
 use Rattle.grammar.specs.Steps.{first_free}
@@ -30,3 +30,7 @@ with_positions (suc i) spots f = lone_at i (first_free i spots) (with_positions 
 -- the formula of a whole claim over n sets
 abbrev pub whole : ℕ → Claim → Formula
 whole n f = with_positions n (free [] f) (formula_of f)
+
+-- a formula is true or it is not, whatever the sets are
+abbrev pub Decided : (ℕ → List ℕ → Type 0) → Formula → Type 0
+Decided holds f = (x : ℕ → ℕ) → Truth holds f x ⊎ (Truth holds f x → ⊥)

@@ -1,9 +1,10 @@
 -- What a claim means in WS1S. Positions range over the natural numbers, and sets over all finite sets of them.
-use Rattle.std.specs.Prelude.{◌≡◌, ℕ, ◌^◌, cond, ◌⊎◌, List, [], map, All}
-use Rattle.words.specs.Words.{coded}
-use Rattle.words.specs.Formulas.{instead}
+use Rattle.std.specs.Prelude.{◌≡◌, ℕ, ◌^◌, cond, ◌↔◌, ◌⊎◌, List, [], map, All}
+use Rattle.words.specs.Words.{Columns, coded}
+use Rattle.words.specs.Formulas.{instead, Satisfies}
 use Rattle.grammar.specs.declared.step.Spot.{Spot}
 use Rattle.grammar.specs.Claims.{Claim, atom, denial, and, or, implies, some, every, is_position, free}
+use Rattle.reading.specs.Formulas.{whole}
 
 -- Each letter stands for a number: a lower-case letter for a position, and an upper-case letter for a finite set, which is held as
 -- one number (bit p says whether position p is a member), so that the natural numbers are exactly the finite sets.
@@ -30,3 +31,7 @@ Codes variables v w = All (λ x. coded x.set w ≡ as_set v x) variables
 -- the sets that a word codes satisfy a claim: they are what its free variables stand for, and the claim is true of these
 abbrev pub Satisfied : (ℕ → List ℕ → Type 0) → Claim → List ℕ → Type 0
 Satisfied holds f w = (v : ℕ → ℕ) × Codes (free [] f) v w × Meaning holds f v
+
+-- over n sets, the words that satisfy the formula that is built of a claim are those that satisfy the claim
+abbrev pub WholeMeans : ℕ → (ℕ → List ℕ → Type 0) → Claim → Type 0
+WholeMeans n holds f = (w : List ℕ) → Columns n w → Satisfies holds (whole n f) w ↔ Satisfied holds f w

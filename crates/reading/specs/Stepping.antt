@@ -1,7 +1,7 @@
 -- What making steps on a tray does, one by one and all of them.
-use Rattle.std.specs.Prelude.{◌≡◌, ℕ, ◌+◌, ◌-◌, ◌*◌, ◌<◌, ◌≤◌, ◌⊎◌, List, [], ◌∷◌, take, map, length, All, Ok, Err, Result, slice_index}
+use Rattle.std.specs.Prelude.{◌≡◌, ℕ, ◌+◌, ◌-◌, ◌*◌, ◌<◌, ◌≤◌, List, [], ◌∷◌, take, map, length, All, Ok, Err, Result, slice_index}
 use Rattle.words.specs.Automata.{Automaton}
-use Rattle.words.specs.Formulas.{Formula, placed, single, negation, both, either, hidden, Truth}
+use Rattle.words.specs.Formulas.{Formula, placed, single, negation, both, either, hidden}
 use Rattle.words.specs.Meanings.{SameAfter}
 use Rattle.words.specs.Residuals.{Count}
 use Rattle.tables.specs.declared.pairs.Join.TheVariants.{Both as both-join, Either as either-join}
@@ -19,6 +19,7 @@ use Rattle.grammar.specs.declared.step.Build.TheVariants.{Place, Single, Negate,
 use Rattle.grammar.specs.declared.step.Step.{Step}
 use Rattle.grammar.specs.Steps.{Call, place, single as single-call, negate, both as both-call, either as either-call, hide, step_of}
 use Rattle.reading.specs.Building.{puts, AllMade, RefusedAt}
+use Rattle.reading.specs.Formulas.{Decided}
 use Rattle.reading.specs.declared.fault.Fault.{Fault}
 use Rattle.reading.specs.declared.fault.Reason.TheVariants.{Call as call}
 
@@ -50,10 +51,7 @@ SameTray c tables c' tables' =
 abbrev pub terms_of : Control → ℕ → ℕ → (ℕ → Automaton) → Terms
 terms_of c records size a = record { sets = c.sets; budget = c.budget; depth = c.depth; records = records; size = size; automaton = a }
 
--- a formula whose truth is decided for every choice of sets, and that of each part of it
-abbrev pub Decided : (ℕ → List ℕ → Type 0) → Formula → Type 0
-Decided holds f = (x : ℕ → ℕ) → Truth holds f x ⊎ (Truth holds f x → ⊥)
-
+-- so is each part of a formula
 abbrev pub Sure : (ℕ → List ℕ → Type 0) → Formula → Type 0
 Sure holds (placed p listed) = Decided holds (placed p listed)
 Sure holds (single i) = Decided holds (single i)

@@ -1,12 +1,9 @@
 //! Making the steps of a claim on a tray.
 ghost use Rattle.std.specs.Prelude.{◌≡◌, ◌≤◌};
 ghost use Rattle.tray.specs.Memory.{SameMemory};
-ghost use Rattle.tray.specs.Refusals.{number_of};
-ghost use Rattle.reading.specs.Building.{refused_place};
 ghost use Rattle.reading.specs.Stepping.{Steps, Leaves, Builds};
-ghost use Rattle.reading.specs.declared.fault.Reason.TheVariants.{Call as call};
 
-use crate::fault::{Fault, Reason};
+use crate::fault::Fault;
 use books::Book;
 use calls::Work;
 use grammar::{Build, Step};
@@ -54,21 +51,6 @@ fn drop_to(tray: &mut Tray, count: usize)
     while tray.count() > count && tray.drop().is_ok() {}
 }
 
-// The fault of a refused step. Memory that is too short is no fault of the text, and has place 0.
-fn refused(why: Refusal, place: u16) -> Fault
-    ensures reason { result.reason ≡ call why }
-    ensures place { result.place ≡ refused_place (number_of why) place }
-{
-    let place = match why {
-        Refusal::NoMemory => 0,
-        _ => usize::from(place),
-    };
-    Fault {
-        reason: Reason::Call(why),
-        place,
-    }
-}
-
 // Makes the steps in their order, and answers the counts of the last one. Where one is refused, the tables that were
 // made are removed.
 pub(crate) fn build<B: Book, const STATES: usize>(
@@ -87,7 +69,7 @@ pub(crate) fn build<B: Book, const STATES: usize>(
             Ok(answer) => counts = answer,
             Err(why) => {
                 drop_to(tray, below);
-                return Err(refused(why, step.place));
+                return Err(Fault::of_call(why, step.place));
             }
         }
     }

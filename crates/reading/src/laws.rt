@@ -1,8 +1,12 @@
-//! The theorem about the meaning of claims, on the contract of a function that a program can call.
-ghost use Rattle.reading.specs.MeaningLaws.{MeaningLaws};
+//! The theorems about the meaning of claims, on the contract of a function that a program can call.
+ghost use Rattle.reading.specs.MeaningLaws.{MeaningLaws, WholeLaws};
+
+use books::Book;
 
 /// Computes nothing: its contract says that letters and sets go one to one in a text, that a position is the only member of
-/// its set, and that some word codes whatever the letters stand for.
-pub fn laws_of_meaning()
-    ensures { MeaningLaws }
+/// its set, and that some word codes whatever the letters stand for; and of every book that the formula which is built of a
+/// claim means what the claim means.
+pub fn laws_of_meaning<B: Book>(_book: &B)
+    ensures meaning { MeaningLaws }
+    ensures whole { WholeLaws (B.Book.holds _book.now) }
 {}

@@ -12,7 +12,7 @@ use tray::Tray;
 
 /// Reads a claim's text, and puts its table on top of the tray. Answers the counts of the last building call, or why
 /// the text is refused; the tray is then as it was. The memory for steps needs three for each byte of the text and
-/// 16 more; it and the work memory are free afterwards.
+/// 16 more. What it and the work memory hold afterwards is left open.
 pub fn read<B: NamedBook, const STATES: usize>(
     book: &B,
     text: &[u8],
@@ -22,6 +22,7 @@ pub fn read<B: NamedBook, const STATES: usize>(
 ) -> Result<(usize, usize), Fault>
     ensures reads { ReadsText (B.NamedBook.numbered book.now) (B.Book.size book.now) (B.Book.automaton book.now) (B.Book.holds book.now) STATES (length steps.old) text.now tray.old.control tray.old.tables.now tray.new.control tray.new.tables.now result }
     ensures owners { SameMemory tray.old tray.new }
+    ensures room { length steps.new ≡ length steps.old }
 {
     let count = plan_text(book, text, tray.sets(), steps)?;
     build(book, tray, work, &steps[..count])

@@ -32,9 +32,9 @@ returns-in-Err-clause-builds g c = λ enough.
     let before = c.loop-step.invariant in
     let x = come_refused g.row.STATES size automaton holds c.args.steps.now c.args.tray.now.control c.args.tray.now.tables.now
     c.loop-step.step-index _ c.loop-step-test.true c.loop-step.tray.control c.loop-step.tray.tables.now c.loop-step.counts before.2
-    c.make_step.new.tray.control c.make_step.new.tray.tables.now c.in-Err.why c.in-Err.ensures.steps c.refused.result.place c.refused.ensures.place
+    c.make_step.new.tray.control c.make_step.new.tray.tables.now c.in-Err.why c.in-Err.ensures.steps c.of_call.result.place c.of_call.ensures.place
     c.count-below.result before.1 c.drop_to.new.tray.control c.drop_to.new.tray.tables.now c.drop_to.ensures.leaves enough in
-    (c.in-Err.why, c.refused.ensures.reason, x.0, x.1)
+    (c.in-Err.why, c.of_call.ensures.reason, x.0, x.1)
 
 pub returns-clause-builds : goal.returns-clause-builds
 returns-clause-builds g c =
