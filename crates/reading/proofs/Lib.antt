@@ -16,3 +16,4 @@ pub mod Telling
 pub mod Raising
 pub mod Whole
 pub mod MeaningLaws
+pub mod OneAnswer

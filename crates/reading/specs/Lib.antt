@@ -6,3 +6,4 @@ pub mod Stepping
 pub mod Reading
 pub mod MeaningLaws
 pub mod Judging
+pub mod ReadingLaws

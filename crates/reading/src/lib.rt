@@ -7,7 +7,7 @@ mod laws;
 mod reading;
 
 pub use fault::{Fault, Reason};
-pub use laws::laws_of_meaning;
+pub use laws::{laws_of_meaning, laws_of_reading};
 pub use reading::read;
 
 #[cfg(test)]
