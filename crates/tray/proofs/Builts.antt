@@ -110,8 +110,6 @@ module _ (c : Control) (tables tables' : List ℕ) (below : ℕ) (Same : List �
     built lower top =
         let n : ℕ = c.sets in
         let c' : Control = moved c (below + 1) (set c.sizes below size) in
-        let small : size ≤ c.budget = omega (arith, landed.met_few, landed.size_few) in
-        let wide : size * width n ≤ slot c = mul-le-mul_right (width n) small in
         record {
           settings = record { sets = refl; budget = refl; depth = refl };
           count = refl;
@@ -123,7 +121,7 @@ module _ (c : Control) (tables tables' : List ℕ) (below : ℕ) (Same : List �
           kept_count = subst (Count n (SameResidual n (says c' tables' below))) top_size
               (table_counts n (says c' tables' below) (rows_of c tables' below) (size_of c' below) top.table);
           size = top_size;
-          elsewhere = (landed.elsewhere.0, λ i h. landed.elsewhere.1 i (omega (arith, wide)));
+          elsewhere = landed.elsewhere;
         }
 
 -- ---- what a tray that can hold a table has room for

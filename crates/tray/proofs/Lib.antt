@@ -9,3 +9,5 @@ pub mod Negatings
 pub mod Singles
 pub mod Hidings
 pub mod Telling
+pub mod Memories
+pub mod Openings

@@ -1,6 +1,7 @@
 -- Building calls: each puts one new table on top of those that it leaves, and answers two counts.
 use Rattle.std.specs.Prelude.{◌≡◌, ℕ, ◌+◌, ◌*◌, ◌<◌, ◌≤◌, List, Ok, Err, Decides, Result}
 use Rattle.words.specs.Words.{Columns}
+use Rattle.words.specs.Rows.{width}
 use Rattle.words.specs.Residuals.{SameResidual, Count}
 use Rattle.tables.specs.Tabulated.{Elsewhere}
 use Rattle.tray.specs.declared.control.Control.{Control}
@@ -32,8 +33,8 @@ pub record Built (below : ℕ) (Same : List ℕ → List ℕ → Type 0) (Means 
   pub met_count : Count c.sets Same met
   pub kept_count : Count c.sets (SameResidual c.sets (says c' tables' below)) kept
   pub size : size_of c' below ≡ kept
-  -- no memory but the slot of the new table is written
-  pub elsewhere : Elsewhere (below * slot c) (slot c) tables tables'
+  -- no memory is written but the rows of the new table, at the front of its slot
+  pub elsewhere : Elsewhere (below * slot c) (kept * width c.sets) tables tables'
 
 -- The answer of a building call with these checks.
 abbrev pub Builds : List (ℕ × Type 0) → ℕ → (List ℕ → List ℕ → Type 0) → (List ℕ → Type 0) → Control → List ℕ → Control → List ℕ → Result (ℕ × ℕ) Refusal → Type 0

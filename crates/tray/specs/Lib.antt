@@ -5,6 +5,7 @@ pub mod View
 pub mod Aside
 pub mod Memory
 pub mod Opening
+pub mod OpeningLaws
 pub mod Asked
 pub mod Joined
 pub mod Flipped

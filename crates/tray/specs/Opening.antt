@@ -1,5 +1,5 @@
 -- Opening a tray.
-use Rattle.std.specs.Prelude.{◌≡◌, ℕ, ◌*◌, ◌<◌, ◌⊎◌, List, [], ◌∷◌, Ok, Err, Result}
+use Rattle.std.specs.Prelude.{◌≡◌, ℕ, ◌*◌, ◌<◌, ◌⊎◌, ◌&&◌, nat_le, min, if◌then◌else◌, List, [], ◌∷◌, Ok, Err, Result}
 use Rattle.words.specs.Rows.{width}
 use Rattle.tray.specs.declared.control.Control.{Control}
 use Rattle.tray.specs.declared.refusal.Refusal.{Refusal}
@@ -17,3 +17,8 @@ abbrev pub Opens : ℕ → ℕ → ℕ → ℕ → ℕ → Control → Control �
 Opens n b d tables spare c c' (Ok _) =
     AllPass (open_checks n b d tables spare) × (c'.sets ≡ n) × (c'.budget ≡ b) × (c'.depth ≡ d) × (c'.count ≡ 0)
 Opens n b d tables spare c c' (Err r) = FirstFailed (open_checks n b d tables spare) (number_of r) × (c' ≡ c)
+
+-- How many numbers of one memory, which has `long` of them, a tray that is made over it has for tables: the slots that
+-- they take, or all there are; none where a setting is above its range. The rest is work memory.
+abbrev pub tables_part : ℕ → ℕ → ℕ → ℕ → ℕ
+tables_part n b d long = if nat_le n 8 && nat_le b 512 && nat_le d 16 then min long (d * (b * width n)) else 0

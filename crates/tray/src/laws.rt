@@ -1,5 +1,6 @@
-//! The theorem about formulas, on the contract of a function that a program can call.
+//! Theorems about formulas and about memory, on the contracts of functions that a program can call.
 ghost use Rattle.tray.specs.FormulaLaws.{FormulaLaws};
+ghost use Rattle.tray.specs.OpeningLaws.{OpeningLaws};
 
 use books::Book;
 
@@ -7,4 +8,9 @@ use books::Book;
 /// formula over finite sets, and what a verdict says about the finite sets that make a formula true.
 pub fn laws_of_formulas<B: Book>(_book: &B)
     ensures { FormulaLaws (B.Book.holds _book.now) }
+{}
+
+/// Computes nothing: its contract says when one memory has room for a tray, and that a tray keeps that room.
+pub fn laws_of_opening()
+    ensures { OpeningLaws }
 {}

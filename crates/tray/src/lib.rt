@@ -16,7 +16,7 @@ mod top;
 mod tray;
 
 pub use control::Control;
-pub use laws::laws_of_formulas;
+pub use laws::{laws_of_formulas, laws_of_opening};
 pub use refusal::Refusal;
 pub use tray::Tray;
 

@@ -1,8 +1,8 @@
 //! Making a tray, and opening it.
-ghost use Rattle.std.specs.Prelude.{◌≡◌, ℕ, ◌+◌, ◌*◌, ◌≤◌, length};
+ghost use Rattle.std.specs.Prelude.{◌≡◌, ℕ, ◌+◌, ◌*◌, ◌≤◌, ◌++◌, length};
 ghost use Rattle.words.specs.Rows.{width};
 ghost use Rattle.tray.specs.Checks.{Checked};
-ghost use Rattle.tray.specs.Opening.{Opens, open_checks};
+ghost use Rattle.tray.specs.Opening.{Opens, open_checks, tables_part};
 ghost use Rattle.tray.specs.Memory.{SameMemory};
 
 use crate::control::{Control, room_for};
@@ -38,7 +38,7 @@ fn fitting(
 // How many numbers the slots of the tables take, but at most so many; none where the settings are out of range.
 fn table_length(sets: usize, budget: usize, depth: usize, most: usize) -> usize
     ensures few { result ≤ most }
-    ensures is { sets ≤ 8 → budget ≤ 512 → depth ≤ 16 → depth * (budget * width sets) ≤ most → result ≡ depth * (budget * width sets) }
+    ensures is { result ≡ tables_part sets budget depth most }
 {
     if sets > 8 || budget > 512 || depth > 16 {
         return 0;
@@ -71,8 +71,9 @@ impl<'m, 's> Tray<'m, 's> {
     /// is work space. Open with the same settings finds enough memory exactly when (depth + 2) slots fit.
     pub fn within(memory: &'m mut [u16], sets: usize, budget: usize, depth: usize) -> Tray<'m, 'm>
         ensures settings { (result.control.sets ≡ 0) × (result.control.budget ≡ 0) × (result.control.depth ≡ 0) × (result.control.count ≡ 0) }
+        ensures parts { result.tables.now ++ result.spare.now ≡ memory.old }
         ensures whole { length result.tables.now + length result.spare.now ≡ length memory.old }
-        ensures cut { sets ≤ 8 → budget ≤ 512 → depth ≤ 16 → depth * (budget * width sets) ≤ length memory.old → length result.tables.now ≡ depth * (budget * width sets) }
+        ensures cut { length result.tables.now ≡ tables_part sets budget depth (length memory.old) }
     {
         let slots = table_length(sets, budget, depth, memory.len());
         let (tables, spare) = memory.split_at_mut(slots);

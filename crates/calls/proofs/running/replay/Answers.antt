@@ -1,4 +1,5 @@
-use Rattle.std.proofs.Common.{ℕ, List, [], get_or, ◌∙◌}
+use Rattle.std.proofs.Common.{ℕ, List, [], get_or}
+use Rattle.tray.proofs.Memories.{same_memory_chain}
 use Rattle.calls.specs.declared.call.Call.{Call}
 use Rattle.calls.specs.declared.call.Call.TheVariants.{Place}
 use Rattle.calls.specs.Buffers.{held}
@@ -18,7 +19,7 @@ loop-call-preserved g c =
     let before = c.loop-call.invariant in
     let s = step t holds (get_or calls i other) c.loop-call.tray.control c.loop-call.tray.tables.now (held c.loop-call.output)
     c.make.new.tray.control c.make.new.tray.tables.now (held c.make.new.output) c.make.result before.1 before.3 c.make.ensures.makes in (
-      (c.make.ensures.owners.0 ∙ before.0.0, c.make.ensures.owners.1 ∙ before.0.1),
+      same_memory_chain c.open.new.self c.loop-call.tray c.make.new.tray before.0 c.make.ensures.owners,
       s.0,
       fed_next t holds calls i other (desk [] (held c.args.output.now)) (desk before.1 (held c.loop-call.output)) (desk s.0 (held c.make.new.output))
           c.loop-call-test.true before.2 (c.make.result, s.1),

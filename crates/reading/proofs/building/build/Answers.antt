@@ -1,11 +1,12 @@
-use Rattle.std.proofs.Common.{ℕ, List, refl, ◌∙◌}
+use Rattle.std.proofs.Common.{ℕ, List}
 use Rattle.words.specs.Automata.{Automaton}
+use Rattle.tray.proofs.Memories.{same_memory, same_memory_chain}
 use Rattle.reading.proofs.Stepping.{come_none, come_one, come_refused, come_all}
 use Rattle.reading.proofs.building.build.Goals as goal
 
 pub loop-step-init : goal.loop-step-init
 loop-step-init g c = (
-  (refl, refl),
+  same_memory c.args.tray.now,
   c.count-below.ensures,
   come_none g.row.STATES (g.B.Book.size c.args.book.now) (g.B.Book.automaton c.args.book.now) (g.B.Book.holds c.args.book.now) c.args.steps.now
       c.args.tray.now.control c.args.tray.now.tables.now (0, 0),
@@ -17,7 +18,7 @@ loop-step-preserved g c =
     let automaton : ℕ → Automaton = g.B.Book.automaton c.args.book.now in
     let holds : ℕ → List ℕ → Type 0 = g.B.Book.holds c.args.book.now in
     let before = c.loop-step.invariant in (
-      (c.make_step.ensures.owners.0 ∙ before.0.0, c.make_step.ensures.owners.1 ∙ before.0.1),
+      same_memory_chain c.args.tray.now c.loop-step.tray c.make_step.new.tray before.0 c.make_step.ensures.owners,
       before.1,
       come_one g.row.STATES size automaton holds c.args.steps.now c.args.tray.now.control c.args.tray.now.tables.now
           c.loop-step.step-index _ c.loop-step-test.true c.loop-step.tray.control c.loop-step.tray.tables.now c.loop-step.counts before.2

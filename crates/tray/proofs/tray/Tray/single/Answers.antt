@@ -16,7 +16,7 @@ returns-in_err-counts-clause-singles c =
     let i : ℕ = c.args.set in
     let there : i < k.sets = c.if-set-control.false in
     let high : k.count < k.depth = c.if-control.false in
-    let enough : 3 ≤ k.budget = c.if-control-lt-STATES.false in
+    let enough : 3 ≤ k.budget = omega (arith, c.if-control-lt-STATES.false) in
     let refused = too_many_met (asked exactly (i ∷ [])) k.sets 3 (SameBookState exactly (i ∷ [])) c.in_err-counts.field-0.0
     (λ u w _ _. same_asked exactly (i ∷ []) u w) c.in_err-counts.ensures in
     absurd (not_four k.sets i refused.1)
@@ -28,7 +28,7 @@ invariant_of-self-2-clause-live c =
     let i : ℕ = c.args.set in
     let there : i < k.sets = c.if-set-control.false in
     let high : k.count < k.depth = c.if-control.false in
-    let enough : 3 ≤ k.budget = c.if-control-lt-STATES.false in
+    let enough : 3 ≤ k.budget = omega (arith, c.if-control-lt-STATES.false) in
     let found = c.in_ok-counts.ensures in
     let three = three_states t i there high enough (language (asked exactly (i ∷ []))) (drop (slot k) c.explore.new.spare) c.land.new.tables c.in_ok-counts.counts.met c.in_ok-counts.counts.kept
     found.0 found.1 found.3 (one_means i) c.land.ensures.copied c.land.ensures.elsewhere in
@@ -43,7 +43,7 @@ returns-clause-singles c =
     let i : ℕ = c.args.set in
     let there : i < k.sets = c.if-set-control.false in
     let high : k.count < k.depth = c.if-control.false in
-    let enough : 3 ≤ k.budget = c.if-control-lt-STATES.false in
+    let enough : 3 ≤ k.budget = omega (arith, c.if-control-lt-STATES.false) in
     let found = c.in_ok-counts.ensures in
     let three = three_states t i there high enough (language (asked exactly (i ∷ []))) (drop (slot k) c.explore.new.spare) c.land.new.tables c.in_ok-counts.counts.met c.in_ok-counts.counts.kept
     found.0 found.1 found.3 (one_means i) c.land.ensures.copied c.land.ensures.elsewhere in
