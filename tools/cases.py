@@ -1,18 +1,20 @@
 #!/usr/bin/env python3
-"""Makes the cases of the program `cases`, each with the answer that MONA gives, another tool that decides WS1S.
+"""Makes the cases of the program `cases`, each with the answer that is expected of it. The answers to claims come from MONA,
+another tool that decides WS1S; the faults of inputs that are refused come from the rules alone, as tools/rules.py has them.
 
 It needs Python 3.10 or later and MONA, `apt-get install mona`. At the top of the repository, to make the two files anew:
 
     python3 tools/cases.py crates/cases
 
-In the folder, `stdin` gets a line for each case: the number of sets, a blank and the text. `stdout` gets the line that is
-expected of it: the verdict, the states, and the lengths of the witness and of the counterexample (`-` for an absent word).
+In the folder, `stdin` gets a line for each case, in one of two forms that the program's head describes. `stdout` gets the
+values that are expected of it, as `decide` prints them: the verdict, the states, the witness and the counterexample; or the
+number, the layer and the place of the fault.
 With `--bench bench` the formulas of bench/decide.py are made anew too: some of the cases by rising cost, in the form of
 stdin, as bench/formulas.txt, and the same for MONA as bench/mona/NNN.mona.
 
-The expected lines are read off MONA's automata alone. The Tray below picks the texts that are within the limits; what it
-finds is compared with MONA, and every difference is printed. Exit status 1 says that there was one. A second run makes
-the same files, byte for byte."""
+The answers to claims are read off MONA's automata alone. The Tray of tools/rules.py picks the texts that are within the
+limits; what it finds is compared with MONA, and every difference is printed. Exit status 1 says that there was one. A second
+run makes the same files, byte for byte."""
 import argparse
 import collections
 import functools
@@ -25,61 +27,22 @@ import shutil
 import subprocess
 import sys
 import typing
+import urllib.parse
+
+sys.dont_write_bytecode = True
+from faults import inputs, question  # noqa: E402
+from rules import (  # noqa: E402
+    NESTING, PLACES, TEXT, Automaton, Bound, Joined, Negated, Placed, Reader, Refused, Tray, asked, build, explored, smallest)
 
 SEED = 20
-SETS, BUDGET, DEPTH, NESTING, TEXT = 4, 64, 8, 32, 1024
-PLACES = {"sub": 2, "one": 1, "suc": 2, "les": 2, "sum": 3, "emp": 1}
+SETS, BUDGET, DEPTH = 4, 64, 8
 
 
-# ---- Formulas and texts ----
-
-class Placed(typing.NamedTuple):
-    name: str
-    letters: str
-
-
-class Negated(typing.NamedTuple):
-    part: "Formula"
-
-
-class Joined(typing.NamedTuple):
-    mark: str
-    left: "Formula"
-    right: "Formula"
-
-
-class Bound(typing.NamedTuple):
-    mark: str
-    letter: str
-    part: "Formula"
-
-
-Formula = Placed | Negated | Joined | Bound
-
+# ---- Texts ----
 
 def read(text):
     """The formula of a text, which must be right."""
-    tokens = iter(tokens_of(text))
-
-    def formula():
-        match next(tokens):
-            case "~":
-                return Negated(formula())
-            case "&" | "|" | ">" as mark:
-                return Joined(mark, formula(), formula())
-            case "?" | "!" as mark:
-                return Bound(mark, variable(), formula())
-            case name:
-                return Placed(name, "".join(variable() for _ in range(PLACES[name])))
-
-    def variable():
-        letter = next(tokens)
-        assert len(letter) == 1 and letter.isalpha(), text
-        return letter
-
-    whole = formula()
-    assert next(tokens, None) is None, text
-    return whole
+    return Reader(text.encode(), sets=len(text)).whole()
 
 
 def tokens_of(text):
@@ -137,200 +100,50 @@ def parts_of(formula):
             yield from parts_of(right)
 
 
-# ---- Automata ----
+# ---- Answers ----
 
-class Automaton(typing.NamedTuple):
-    """Row s has the next states of state s in the order of the columns. State 0 is the start."""
-    rows: list
-    accepts: list
-
-
-def explored(start, step, accepts, columns, budget=math.inf):
-    """The automaton of all that is reached from the start, with states numbered by the earliest shortest word."""
-    number = {start: 0}
-    reached = [start]
-    rows = []
-    for state in reached:
-        row = []
-        for column in range(columns):
-            after = step(state, column)
-            if after not in number:
-                if len(reached) == budget:
-                    raise OverLimit
-                number[after] = len(reached)
-                reached.append(after)
-            row.append(number[after])
-        rows.append(row)
-    return Automaton(rows, [bool(accepts(state)) for state in reached])
+def earliest(automaton, accepting):
+    """The earliest of the shortest words that end so, or None. States are met in the order of their earliest words."""
+    words = {0: ()}
+    for state in (met := [0]):
+        if automaton.accepts[state] == accepting:
+            return words[state]
+        for column, after in enumerate(automaton.rows[state]):
+            if after not in words:
+                words[after] = *words[state], column
+                met.append(after)
+    return None
 
 
-def smallest(automaton):
-    """The least automaton for the same words. Classes of states are split until a whole round splits none."""
-    rows, accepts = automaton
-    kind = [int(each) for each in accepts]
-    while True:
-        looks = [(kind[s], *(kind[after] for after in rows[s])) for s in range(len(rows))]
-        numbers = {look: k for k, look in enumerate(dict.fromkeys(looks))}
-        finer = [numbers[look] for look in looks]
-        if len(numbers) == len(set(kind)):
-            break
-        kind = finer
-    first = {k: s for s, k in reversed(list(enumerate(kind)))}
-    return explored(kind[0], lambda k, column: kind[rows[first[k]][column]], lambda k: accepts[first[k]], len(rows[0]))
+def ends_accepting(automaton, word):
+    return automaton.accepts[functools.reduce(lambda state, column: automaton.rows[state][column], word, 0)]
 
 
-def shortest(automaton, accepting):
-    """The length of the shortest word that ends so, or None."""
-    seen = layer = {0}
-    for length in itertools.count():
-        if any(automaton.accepts[s] == accepting for s in layer):
-            return length
-        layer = {after for s in layer for after in automaton.rows[s]} - seen
-        if not layer:
-            return None
-        seen = seen | layer
+def first_by_trial(automaton, accepting, most=5_000):
+    """The same by trying word after word in their order; None where none of the first words ends so."""
+    columns = range(len(automaton.rows[0]))
+    words = (word for length in range(len(automaton.rows)) for word in itertools.product(columns, repeat=length))
+    return next((word for word in itertools.islice(words, most) if ends_accepting(automaton, word) == accepting), None)
+
+
+def shown(word):
+    return "-" if word is None else ",".join(map(str, word)) or "."
 
 
 class Answer(typing.NamedTuple):
     verdict: str
     states: int
-    witness: int | None
-    counter: int | None
+    witness: tuple | None
+    counter: tuple | None
 
     def line(self):
-        return " ".join("-" if each is None else str(each) for each in self)
+        return f"{self.verdict} {self.states} {shown(self.witness)} {shown(self.counter)}"
 
 
 def answer(automaton):
-    witness, counter = shortest(automaton, True), shortest(automaton, False)
+    witness, counter = earliest(automaton, True), earliest(automaton, False)
     verdict = "none" if witness is None else "all" if counter is None else "some"
     return Answer(verdict, len(smallest(automaton).rows), witness, counter)
-
-
-# ---- The checker's limits ----
-
-class OverLimit(Exception):
-    pass
-
-
-def step_sub(state, first, second):
-    return state or int(first and not second)
-
-
-def step_one(state, first):
-    return min(state + first, 2)
-
-
-def step_suc(state, first, second):
-    return {(0, 0, 0): 0, (0, 1, 0): 1, (1, 0, 1): 2, (2, 0, 0): 2}.get((state, first, second), 3)
-
-
-def step_les(state, first, second):
-    return {(0, 0, 0): 0, (0, 1, 0): 1, (1, 0, 0): 1, (1, 0, 1): 2, (2, 0, 0): 2}.get((state, first, second), 3)
-
-
-def step_sum(state, first, second, third):
-    total = state + first + second
-    return 2 if state == 2 or total % 2 != third else total // 2
-
-
-def step_emp(state, first):
-    return state or first
-
-
-BOOK = {"sub": (step_sub, 0), "one": (step_one, 1), "suc": (step_suc, 2), "les": (step_les, 2), "sum": (step_sum, 0), "emp": (step_emp, 0)}
-
-
-class Tray:
-    """Builds a formula as the checker does, or raises OverLimit."""
-
-    def __init__(self, text):
-        formula = read(text)
-        self.letters = letters_of(text)
-        self.columns = 2 ** len(self.letters)
-        self.pile = []
-        self.mets = []
-        self.depth = 0
-        if len(text) > TEXT or nesting(formula) > NESTING or len(self.letters) > SETS:
-            raise OverLimit
-        self.build(formula)
-        for letter in self.letters:
-            if letter.islower() and letter in free_in(formula):
-                self.single(letter)
-                self.join("&")
-        self.table, = self.pile
-
-    def build(self, formula):
-        match formula:
-            case Placed(name, letters):
-                self.place(name, letters)
-            case Negated(part):
-                self.build(part)
-                self.negate()
-            case Joined(mark, left, right):
-                self.build(left)
-                if mark == ">":
-                    self.negate()
-                self.build(right)
-                self.join(mark)
-            case Bound(mark, letter, part):
-                self.build(part)
-                if mark == "!":
-                    self.negate()
-                if letter.islower():
-                    self.single(letter)
-                    self.join("&")
-                self.hide(letter)
-                if mark == "!":
-                    self.negate()
-
-    def bit(self, letter):
-        return self.letters.index(letter)
-
-    def put(self, explored_now):
-        self.mets.append(len(explored_now.rows))
-        self.pile.append(smallest(explored_now))
-        self.depth = max(self.depth, len(self.pile))
-
-    def place(self, name, letters):
-        if len(self.pile) == DEPTH:
-            raise OverLimit
-        step, accepting = BOOK[name]
-        bits = [self.bit(letter) for letter in letters]
-        self.put(explored(0, lambda s, column: step(s, *(column >> bit & 1 for bit in bits)), lambda s: s == accepting, self.columns, BUDGET))
-
-    def single(self, letter):
-        self.place("one", letter)
-
-    def negate(self):
-        rows, accepts = self.pile.pop()
-        self.put(Automaton(rows, [not each for each in accepts]))
-
-    def join(self, mark):
-        upper = self.pile.pop()
-        lower = self.pile.pop()
-        hold = all if mark == "&" else any
-        self.put(explored(
-            (0, 0),
-            lambda pair, column: (lower.rows[pair[0]][column], upper.rows[pair[1]][column]),
-            lambda pair: hold((lower.accepts[pair[0]], upper.accepts[pair[1]])),
-            self.columns, BUDGET))
-
-    def hide(self, letter):
-        rows, accepts = self.pile.pop()
-        own = 1 << self.bit(letter)
-        # The hidden set may have members past the word's end, where the other sets have none.
-        late = {s for s, each in enumerate(accepts) if each}
-        while more := {s for s in range(len(rows)) if s not in late and (rows[s][0] in late or rows[s][own] in late)}:
-            late |= more
-        self.put(explored(
-            frozenset([0]),
-            lambda states, column: frozenset(rows[s][c] for s in states for c in (column & ~own, column | own)),
-            lambda states: states & late,
-            self.columns, BUDGET))
-
-    def cost(self):
-        return sum(self.mets) * self.columns
 
 
 # ---- MONA ----
@@ -386,10 +199,10 @@ def mona_placed(name, letters):
 
 
 class Mona(typing.NamedTuple):
-    """What MONA says of a text: its automaton without the first state, which reads no column, and its own analysis."""
+    """What MONA says of a text: its automaton without the first state, which reads no column, and its own examples."""
     automaton: Automaton
-    witness: int | None
-    counter: int | None
+    witness: tuple | None
+    counter: tuple | None
     restricted: int
 
 
@@ -404,9 +217,11 @@ def mona(text):
         line = re.search(rf"^{title}:(.*)$", out, re.M)
         return {int(number) for number in line[1].split()} if line else set()
 
+    # A variable of MONA's has the bit of its letter's set, whatever the order in which MONA lists it.
+    sets = list(map(mona_set, letters))
     named = re.search(r"^DFA for formula with free variables:(.*)$", out, re.M)[1].split()
-    assert sorted(named) == sorted(map(mona_set, letters)), text
-    bits = [list(map(mona_set, letters)).index(name) for name in named]
+    assert sorted(named) == sorted(sets), text
+    bits = [sets.index(name) for name in named]
     steps = {}
     for state, given, after in re.findall(r"^State (\d+): ([01X]+) -> state (\d+)$", out, re.M):
         for chosen in itertools.product(*("01" if each == "X" else each for each in given)):
@@ -420,11 +235,16 @@ def mona(text):
     automaton = explored(start, lambda s, column: steps[s, column], lambda s: s in accepting, columns)
     restricted = explored(start, lambda s, column: steps[s, column], lambda s: s not in accepting | rejecting, columns)
 
-    def least(which):
-        found = re.search(rf"^A {which} of least length \((\d+)\) is:$", out, re.M)
-        return int(found[1]) if found else None
+    def example(which):
+        """MONA prints a track for each variable: a sign for its first step, and then one for each position."""
+        found = re.search(rf"^A {which} of least length \((\d+)\) is:\n((?:.+\n)+)", out, re.M)
+        if not found:
+            return None
+        tracks = dict(re.fullmatch(r"(\S+) +[01X] ([01X]*)", line).groups() for line in found[2].splitlines())
+        assert sorted(tracks) == sorted(sets) and all(len(track) == int(found[1]) for track in tracks.values()), text
+        return tuple(sum(1 << sets.index(name) for name in sets if tracks[name][at] == "1") for at in range(int(found[1])))
 
-    return Mona(automaton, least("satisfying example"), least("counter-example"), sum(restricted.accepts))
+    return Mona(automaton, example("satisfying example"), example("counter-example"), sum(restricted.accepts))
 
 
 def mona_version():
@@ -438,7 +258,8 @@ def closed_at_the_end(automaton):
 
 # ---- Texts by hand ----
 
-EXAMPLES = ("sub A B", "one A", "suc A B", "sum A B C", "?C sum A B C", "& one A one B", "?X!p sub p X", "!p?X sub p X", "sub x X", "& sub A B ?A one A")
+EXAMPLES = ("sub A B", "one A", "suc A B", "sum A B C", "?C sum A B C", "& one A one B", "?X!p sub p X", "!p?X sub p X", "sub x X",
+            "& sub A B ?A one A")
 
 
 def both(first, *more):
@@ -875,6 +696,50 @@ def edge_claims():
     yield "|~one A|one A>emp A one A"
 
 
+def turned_claims():
+    """Claims that the order of the sets decides, with letters in another order than the alphabet's, bound ones among them."""
+    yield from ("suc B A", "les B A", "sub B A", "suc q p", "les q p", "sub X p", "sum C B A", "sum C A B", "sum B C A", "suc p B",
+                "les B p", "suc b A", "sum b A a")
+    for order in ("BA", "CAB", "BCA", "CBA", "BAC", "DCBA", "CADB", "BDAC", "DACB", "qp", "rpq", "qrp", "Bp", "pBA", "BqA", "ZpYq"):
+        pairs = list(itertools.pairwise(order))
+        yield both(*(f"suc {first} {second}" for first, second in pairs))
+        yield both(*(f"les {first} {second}" for first, second in pairs))
+        yield f"~{both(*(f'suc {first} {second}' for first, second in pairs))}"
+        yield implied(both(*(f"les {first} {second}" for first, second in pairs)), f"suc {order[0]} {order[-1]}")
+        yield implied(f"les {order[0]} {order[-1]}", both(*(f"suc {first} {second}" for first, second in pairs)))
+    for low, middle, high in itertools.permutations("ABX"):
+        yield f"?{middle} & suc {low} {middle} suc {middle} {high}"
+        yield f"?{middle} & les {low} {middle} les {middle} {high}"
+        yield f"& one {low} ?{middle} & suc {high} {middle} les {middle} {low}"
+        yield implied(f"les {low} {high}", f"?{middle} & les {low} {middle} les {middle} {high}")
+        yield f"& sub {high} {low} ?{middle} & ~emp {middle} & sub {middle} {high} ~sub {low} {middle}"
+        yield f"& ~emp {high} sum {low} {middle} {high}"
+        yield f"& & ~emp {low} ~sub {low} {high} sum {high} {middle} {low}"
+    for low, middle, high in itertools.permutations("pqr"):
+        yield f"?{middle} & suc {low} {middle} suc {middle} {high}"
+        yield f"& les {high} {low} ~?{middle} & les {high} {middle} les {middle} {low}"
+        yield f"& sub {high} A ?{middle} & suc {high} {middle} & suc {middle} {low} ~sub {low} A"
+    for first, second in ("BA", "ZY", "YB"):
+        for m in (3, 5, 6, 11):
+            yield both(f"~emp {second}", multiple(m, first, second))
+        yield implied(multiple(3, second, first), f"sub {first} {second}")
+        yield plus_one(first, second, "p", "q")
+        yield implied("one " + first, f"~{plus_one(first, second, 'p', 'q')}")
+    for k in (2, 3, 5):
+        yield later_by(k, "q", "p", "r")
+        yield later_by(k, "r", "p", "q")
+        yield both(later_by(k, "q", "p", "r"), "sub p A")
+        yield implied(later_by(k, "q", "p", "r"), "sub p A")
+    # A letter that is bound first, or stands free first and bound later.
+    yield from (
+        "& ?X one X suc B A", "& ?B suc B A suc C B", "& suc C A ?C suc A C", "| ?A suc A B ?B suc B A",
+        "& ?Z sub Z Y & suc Y X suc X Z", "!Y | emp Y ?B & suc Y B sub B A", "& !q | les p q sub q p suc q p",
+        "?q & suc q B !A > sub A B sub A C", "& sub B C & !D > suc D B sub D A ~emp B", "> ?X & suc X B sub X A les A B",
+        "& ?p suc p X & ?p suc X p sub Y X", "& suc D A & ?B suc B D ?C suc A C", "& ?C les C B & ?A les B A sub D B",
+        "> & suc Y X les X A les Y A", "& & suc Y B ~sub A Y sub A B", "& les q r & sub r B ~?p & les q p les p r",
+        "> & sub B A one A suc B C", "& & sub q Y sub p X suc q p")
+
+
 # ---- Texts by rule and by chance ----
 
 def placed_claims():
@@ -910,6 +775,19 @@ def chance_formula(rng, sizes=(2, 14)):
     return formula
 
 
+def turned_formula(rng):
+    """A few predicates whose places differ, joined, over letters in any order."""
+    pool = rng.sample(rng.choice(("ABCD", "WXYZ", "pqrs", "ABpq", "AXYp")), rng.randint(2, 4))
+    parts = []
+    for _ in range(rng.randint(2, 4)):
+        name = rng.choice(("suc", "suc", "les", "les", "sub", "sum"))
+        part = Placed(name, "".join(rng.sample(pool, 2)) if name != "sum" else "".join(rng.choices(pool, k=3)))
+        part = Negated(part) if rng.random() < 0.15 else part
+        parts.append(Bound(rng.choice("??!"), rng.choice(pool), part) if rng.random() < 0.25 else part)
+    whole = functools.reduce(lambda f, g: Joined(rng.choice("&&&|>"), f, g), parts)
+    return Negated(whole) if rng.random() < 0.2 else whole
+
+
 def restated(rng, formula):
     """The same claim in other words."""
     def again(part):
@@ -936,7 +814,8 @@ def restated(rng, formula):
         case Joined(mark, left, right):
             return Joined(mark, again(right), again(left))
         case Bound(mark, letter, part):
-            return Negated(Bound("!" if mark == "?" else "?", letter, again(Negated(part)))) if rng.random() < 0.6 else Bound(mark, letter, again(part))
+            return Negated(Bound("!" if mark == "?" else "?",
+                                 letter, again(Negated(part)))) if rng.random() < 0.6 else Bound(mark, letter, again(part))
 
 
 def restated_formula(rng):
@@ -963,10 +842,27 @@ def spaced(rng, formula):
 # ---- Choosing and asking ----
 
 class Case(typing.NamedTuple):
+    """A claim with its line in stdin, and what the script's own Tray finds."""
     group: str
+    line: str
     text: str
     tray: Tray
     own: Answer
+
+
+def case_of_input(group, given):
+    """The case of a whole input of `decide`, or raises Refused."""
+    tray = build(given)
+    text = " ".join(tokens_of(asked(given)[3].decode()))
+    return Case(group, line_of_input(given), text, tray, answer(tray.table))
+
+
+def line_of_input(given):
+    """`input`, and the bytes with those that cannot stand in a line by `%` and two hexadecimal digits."""
+    return f"input {urllib.parse.quote_from_bytes(given, safe=PRINTED)}"
+
+
+PRINTED = "".join(map(chr, range(32, 127))).replace("%", "")
 
 
 class Chosen:
@@ -977,12 +873,13 @@ class Chosen:
 
     def tried(self, group, text):
         """The case of this text, unless it is over a limit."""
+        sets = len(letters_of(text))
         try:
-            tray = Tray(text)
-        except OverLimit:
+            tray = build(question(sets, BUDGET, DEPTH, text))
+        except Refused:
             self.left_out.append((group, text))
             return None
-        return Case(group, text, tray, answer(tray.table))
+        return Case(group, f"{sets} {text}", text, tray, answer(tray.table))
 
     def add(self, case, apart=False):
         """Adds a case; apart says that other blanks make another case."""
@@ -1019,9 +916,29 @@ def plain_key(case):
     return None if trivial else (case.own.verdict, len(case.tray.letters))
 
 
+def length(word):
+    return len(word or ())
+
+
+def turned_answer(case):
+    """The answer if the letters had their sets in the alphabet's order."""
+    letters = sorted(case.tray.letters)
+    places = [letters.index(letter) for letter in case.tray.letters]
+    columns = [sum((column >> at & 1) << bit for bit, at in enumerate(places)) for column in range(2 ** len(letters))]
+    rows, accepts = case.tray.table
+    return answer(Automaton([[row[column] for column in columns] for row in rows], accepts))
+
+
+def turned_key(case):
+    """The length of the longer word, up to 4, and the letters, where their order changes the answer."""
+    if turned_answer(case) == case.own:
+        return None
+    return min(4, max(length(case.own.witness), length(case.own.counter))), len(case.tray.letters)
+
+
 def rich_key(case):
-    states = case.own.states
-    return len(case.tray.letters) if case.own.verdict == "some" and (states >= 8 or (case.own.witness or 0) >= 3 or (case.own.counter or 0) >= 2) else None
+    large = case.own.states >= 8 or length(case.own.witness) >= 3 or length(case.own.counter) >= 2
+    return len(case.tray.letters) if case.own.verdict == "some" and large else None
 
 
 def wide_key(case):
@@ -1051,6 +968,7 @@ def chosen_cases():
     chosen.by_hand("sets", set_claims())
     chosen.by_hand("letters", letter_claims())
     chosen.by_hand("edges", edge_claims(), apart=True)
+    chosen.by_hand("turned", turned_claims())
     hand_left_out = [*chosen.left_out]
     chosen.by_chance("plain", chance_formula, {
         **{("none", n): 10 for n in range(1, 5)}, **{("all", n): 8 for n in range(1, 5)}, **{("some", n): 14 for n in range(1, 5)}}, plain_key)
@@ -1059,10 +977,20 @@ def chosen_cases():
     chosen.by_chance("wide", lambda rng: chance_formula(rng, (8, 20)), {"none": 10, "some": 25, "all": 10}, wide_key)
     chosen.by_chance("deep", lambda rng: chance_formula(rng, (6, 16)), {"none": 15, "some": 20, "all": 15}, deep_key)
     chosen.by_chance("restated", restated_formula, {"none": 25, "some": 10, "all": 30}, restated_key)
+    chosen.by_chance("turned", turned_formula, {
+        **{(1, n): 8 for n in (2, 3, 4)}, (2, 2): 8, **{(2, n): 20 for n in (3, 4)}, **{(3, n): 15 for n in (3, 4)},
+        **{(4, n): 6 for n in (3, 4)}}, turned_key)
     return chosen.cases, hand_left_out
 
 
-def asked(case):
+def is_later_example(automaton, accepting, word, example):
+    """Whether both are absent, or the example is another shortest word that ends so, or the same one."""
+    if word is None or example is None:
+        return word is example
+    return len(example) == len(word) and example >= word and ends_accepting(automaton, example) == accepting
+
+
+def compared(case):
     """MONA's answer, and what is odd about it."""
     found = mona(case.text)
     said = answer(found.automaton)
@@ -1071,8 +999,12 @@ def asked(case):
         odd.append(f"here {case.own.line()}, MONA {said.line()}")
     if smallest(found.automaton) != case.tray.table:
         odd.append("tables differ")
-    if (found.witness, found.counter) != (said.witness, said.counter):
-        odd.append(f"MONA's own analysis has lengths {found.witness} and {found.counter}")
+    for accepting, word, example in ((True, said.witness, found.witness), (False, said.counter, found.counter)):
+        tried = first_by_trial(found.automaton, accepting)
+        if tried is not None and tried != word:
+            odd.append(f"{shown(word)} is not the earliest word, as {shown(tried)} is earlier")
+        if not is_later_example(found.automaton, accepting, word, example):
+            odd.append(f"{shown(word)} does not fit MONA's own example {shown(example)}")
     if not closed_at_the_end(found.automaton):
         odd.append("columns 0 at the end change MONA's answer")
     return found, said, odd
@@ -1157,14 +1089,15 @@ def account(cases, answers, found, hand_left_out):
     for feature in sorted(counts):
         print(f"  {feature}: {counts[feature]}")
     spread("states", [said.states for said in answers], (1, 2, 3, 5, 9, 17, 33))
-    spread("witness", [said.witness for said in answers if said.witness is not None], (0, 1, 2, 3, 5, 9))
-    spread("counterexample", [said.counter for said in answers if said.counter is not None], (0, 1, 2, 3, 5, 9))
+    spread("witness", [len(said.witness) for said in answers if said.witness is not None], (0, 1, 2, 3, 5, 9))
+    spread("counterexample", [len(said.counter) for said in answers if said.counter is not None], (0, 1, 2, 3, 5, 9))
     spread("met", [max(case.tray.mets) for case in cases], (1, 5, 9, 17, 33, 49, 57))
-    spread("tables", [case.tray.depth for case in cases], (1, 2, 3, 5, 7, 8))
+    spread("tables", [case.tray.highest for case in cases], (1, 2, 3, 5, 7, 8))
     spread("nesting", [nesting(read(case.text)) for case in cases], (0, 1, 3, 6, 11, 21, 32))
     spread("bytes of text", [len(case.text) for case in cases], (5, 21, 51, 101, 201, 501))
     print(f"MONA's automata that had states to merge: {sum(said.states != len(each.automaton.rows) for said, each in zip(answers, found))}")
     print(f"MONA's automata with don't-care states after the first: {sum(each.restricted > 0 for each in found)}")
+    print(f"cases whose answer the alphabet's order of letters would change: {sum(turned_answer(case) != case.own for case in cases)}")
     print(f"texts by hand over a limit, left out: {len(hand_left_out)}")
     for group, text in hand_left_out:
         print(f"  {group}: {len(text)} bytes: {text[:150]}")
@@ -1172,7 +1105,7 @@ def account(cases, answers, found, hand_left_out):
 
 def bench_cases(cases, many=36, largest=6):
     """Cases of rising cost: those with the most states, and others at even steps of the cost's logarithm, cheapest to dearest."""
-    fit = [case for case in cases if case.group not in ("letters", "plain", "deep", "restated")]
+    fit = [case for case in cases if case.group not in ("letters", "plain", "deep", "restated", "turned")]
     rising = sorted({" ".join(tokens_of(case.text)): case for case in fit}.values(), key=lambda case: (case.tray.cost(), case.text))
     low, high = math.log(rising[0].tray.cost()), math.log(rising[-1].tray.cost())
     many -= largest
@@ -1195,28 +1128,44 @@ def write_bench(folder, cases):
     (folder / "formulas.txt").write_text("".join(lines))
 
 
+def account_of_faults(expected):
+    refused = [said for said in expected if isinstance(said, Refused)]
+    counts = collections.Counter(said.number for said in refused)
+    print(f"{len(expected)} whole inputs, {len(refused)} refused: " + ", ".join(f"{number}: {counts[number]}" for number in sorted(counts)))
+    spread("places", [said.place for said in refused], (0, 1, 2, 5, 9, 17, 33, 65, 129, 257, 513, 1025))
+
+
 def main():
-    arguments = argparse.ArgumentParser(description="Makes the cases that are compared with MONA.")
+    arguments = argparse.ArgumentParser(description="Makes the cases that are compared with MONA and with the rules.")
     arguments.add_argument("folder", type=pathlib.Path, help="gets stdin and stdout")
     arguments.add_argument("--bench", type=pathlib.Path, help="gets formulas.txt and mona/")
     given = arguments.parse_args()
     if not shutil.which("mona"):
         sys.exit("mona is not installed (apt-get install mona)")
-    cases, hand_left_out = chosen_cases()
-    answers, found, differences = [], [], 0
+    claims, hand_left_out = chosen_cases()
+    cases, lines, expected = [*claims], [case.line for case in claims], [*claims]
+    for group, asked_for in inputs(SEED, [case.text.encode() for case in claims]):
+        lines.append(line_of_input(asked_for))
+        try:
+            cases.append(case_of_input(group, asked_for))
+            expected.append(cases[-1])
+        except Refused as fault:
+            expected.append(fault)
+    answers, found, differences = {}, [], 0
     for case in cases:
-        each, said, odd = asked(case)
-        answers.append(said)
+        each, answers[case.line], odd = compared(case)
         found.append(each)
         differences += bool(odd)
         for what in odd:
             print(f"DIFFERENCE {case.text}: {what}")
+    values = [each.line() if isinstance(each, Refused) else answers[each.line].line() for each in expected]
     given.folder.mkdir(parents=True, exist_ok=True)
-    (given.folder / "stdin").write_text("".join(f"{len(case.tray.letters)} {case.text}\n" for case in cases))
-    (given.folder / "stdout").write_text("".join(f"{said.line()}\n" for said in answers))
+    (given.folder / "stdin").write_text("".join(f"{line}\n" for line in lines))
+    (given.folder / "stdout").write_text("".join(f"{line}\n" for line in values))
     if given.bench:
-        write_bench(given.bench, cases)
-    account(cases, answers, found, hand_left_out)
+        write_bench(given.bench, claims)
+    account(cases, [answers[case.line] for case in cases], found, hand_left_out)
+    account_of_faults(expected[len(claims):])
     print(f"differences: {differences}")
     sys.exit(differences > 0)
 

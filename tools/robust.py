@@ -41,7 +41,7 @@ def right_questions():
     """The claims of the program `cases`, as questions."""
     path = pathlib.Path(__file__).parent.parent / "crates" / "cases" / "stdin"
     lines = [line.split(b" ", 1) for line in path.read_bytes().splitlines()]
-    return [question(sets, b"64", b"8", text) for sets, text in lines]
+    return [question(sets, b"64", b"8", text) for sets, text in lines if sets.isdigit()]
 
 
 def question(sets, budget, depth, text):

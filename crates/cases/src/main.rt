@@ -1,19 +1,28 @@
-//! Decides many claims: each line of standard input is a number of sets, a blank and a text. For each it prints a line:
-//! the verdict, the number of states and the lengths of the two words, or the number and the place of the fault.
+//! Decides many claims. A line of standard input has one of two forms:
+//!
+//! - `SETS TEXT`, a number of sets, a blank and a text, which is decided with a budget of 64 and a depth of 8;
+//! - `input BYTES`, all that `decide` is to read. `%` and two hexadecimal digits stand for the byte of this number, as they
+//!   have to for `%` itself, for a line feed, and for each byte that is no printed ASCII.
+//!
+//! For each line it prints the values that `decide` prints: verdict, states, witness and counterexample, or the number, the
+//! layer and the place of the fault.
 #![tactic(auto)]
 
 ghost use Rattle.std.specs.Prelude.{◌≡◌, ◌++◌, codes, IfOk};
+ghost use Rattle.percent_encoding.specs.Percent.{percent_decode as decoded};
 
 use books::Standard;
-use deciding::{Answer, answer_to};
-use judging::Verdict;
+use deciding::decide;
+use loading::cut;
+use percent_encoding::percent_decode;
 use std::alloc::{AllocError, Global};
-use std::fmt;
+use std::io;
+use std::io::Write;
 
 // The settings behind the number of sets: the budget and the depth.
 const SETTINGS: &[u8] = b" 64 8\n";
 
-// The whole input of the claim.
+// The whole input of a claim.
 fn question(alloc: Global, sets: &str, text: &str) -> Result<Vec<u8>, AllocError>
     ensures { IfOk result (λ bytes. bytes.items ≡ codes "sets budget depth\n" ++ (sets.now ++ (codes " 64 8\n" ++ text.now))) }
 {
@@ -25,52 +34,32 @@ fn question(alloc: Global, sets: &str, text: &str) -> Result<Vec<u8>, AllocError
     Ok(bytes)
 }
 
-// The length of a word, or a dash where there is none.
-#[derive(Clone, Copy)]
-struct Length(Option<usize>);
-
-impl fmt::Display for Length {
-    fn fmt<W: fmt::Write>(&self, f: &mut fmt::Formatter<W>) -> fmt::Result {
-        match self.0 {
-            Some(length) => write!(f, "{length}"),
-            None => write!(f, "-"),
-        }
-    }
+// The bytes that are written with escapes.
+fn unescaped(alloc: Global, escaped: &str) -> Result<Vec<u8>, AllocError>
+    ensures { IfOk result (λ bytes. bytes.items ≡ decoded escaped.now) }
+{
+    let mut bytes = Vec::new(alloc);
+    percent_decode(escaped.as_bytes()).append_to(&mut bytes)?;
+    Ok(bytes)
 }
 
-// An answer in one line.
-#[derive(Clone, Copy)]
-struct Told(Answer);
-
-impl fmt::Display for Told {
-    fn fmt<W: fmt::Write>(&self, f: &mut fmt::Formatter<W>) -> fmt::Result {
-        match self.0 {
-            Answer::Refused { number, place, .. } => write!(f, "refused {number} {place}"),
-            Answer::Judged(judged) => {
-                let judgement = judged.judgement;
-                let verdict = match judgement.verdict {
-                    Verdict::NoSets => "none",
-                    Verdict::SomeSets => "some",
-                    Verdict::AllSets => "all",
-                };
-                let witness = Length(judgement.witness);
-                let counterexample = Length(judgement.counterexample);
-                write!(
-                    f,
-                    "{verdict} {} {witness} {counterexample}",
-                    judgement.states
-                )
-            }
-        }
+// The whole input that a line is about.
+fn input_of(alloc: Global, line: &str) -> Result<Vec<u8>, AllocError> {
+    match line.split_once(' ') {
+        Some(("input", escaped)) => unescaped(alloc, escaped),
+        Some((sets, text)) => question(alloc, sets, text),
+        None => question(alloc, line, ""),
     }
 }
 
 fn run(rt: &(impl Print + Input + AllocGlobal)) -> anyhow::Result<()> {
     for line in rt.lines(rt.alloc()) {
         let line = line?;
-        let (sets, text) = line.as_str().split_once(' ').unwrap_or((line.as_str(), ""));
-        let question = question(rt.alloc(), sets, text)?;
-        println!(rt; "{}", Told(answer_to(&Standard, &question)))?;
+        let input = input_of(rt.alloc(), line.as_str())?;
+        let mut lines = Vec::new(rt.alloc());
+        decide(&Standard, &input, &mut lines)?;
+        let (_, values) = cut(&lines);
+        io::writer(rt).write_all(values)?;
     }
     Ok(())
 }
