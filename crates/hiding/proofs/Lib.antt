@@ -8,3 +8,4 @@ pub mod Gathering
 pub mod Collections
 pub mod Reaching
 pub mod HiddenFrom
+pub mod TestTables

@@ -1,16 +1,15 @@
 -- The set of states that a word leads to has the states to which the words lead that are equal to it but for one bit.
-use Rattle.std.proofs.Common.{◌≡◌, ℕ, ◌^◌, ◌<◌, Bool, ◌↔◌, List, [], ◌∷◌, ◌++◌, replicate, Decides, sym, refl, ap, ◌∙◌, subst, inl, inr, ⊎_elim, arith}
+use Rattle.std.proofs.Common.{◌≡◌, ℕ, ◌^◌, ◌<◌, Bool, ◌↔◌, List, [], ◌∷◌, ◌++◌, Decides, sym, refl, ap, ◌∙◌, subst, inl, inr, ⊎_elim, arith}
 use Rattle.std.proofs.lemmas.Bool.Decides.{Decides-like}
 use Rattle.words.specs.Words.{Columns}
 use Rattle.words.specs.Automata.{Automaton, Moves, run, reach, language, SameReach}
-use Rattle.words.specs.Residuals.{BySets}
 use Rattle.words.specs.TableOf.{TableOf}
-use Rattle.words.specs.Hiding.{turned, EqualBut, Hides, Collects, SameCollection}
-use Rattle.words.proofs.Coding.{columns_push, columns_front, columns_last, columns_append, columns_zeros, zeros_at_end}
+use Rattle.words.specs.Hiding.{turned, EqualBut, HidesBit, Collects, SameCollection}
+use Rattle.words.proofs.Coding.{columns_push, columns_front, columns_last, columns_append}
 use Rattle.words.proofs.Runs.{snoc_ind, run_push, run_append}
 use Rattle.words.proofs.Answering.{state_after, table_answers, step_inside}
 use Rattle.words.proofs.Pairing.{same_state, same_residual}
-use Rattle.words.proofs.Hiding.{turned_there, turned_below, hides_beside, beside_hides}
+use Rattle.words.proofs.Hiding.{turned_there, turned_below}
 use Rattle.hiding.specs.declared.state_set.StateSet.{StateSet}
 use Rattle.hiding.specs.declared.hidden_rows.HiddenRows.{HiddenRows}
 use Rattle.hiding.specs.StateSets.{Has, Meet, Whole, no_states}
@@ -131,36 +130,31 @@ module _ (h : HiddenRows) (L : List ℕ → Bool) (t : TableOf h.rows.places L h
   collection_reach u w cu cw same =
       same_sets (reach m u) (reach m w) (reached_whole u) (reached_whole w) (within u w cu cw same.0) (within w u cw cu same.1)
 
-  -- ---- a set accepts exactly when some word with another set i is in the language
+  -- ---- a set accepts exactly when some word with other bits i, and then columns with no bit but i, is in the language
 
   table_inside : Inside h
   table_inside q c hq hc = subst (λ x. x < h.rows.states) (sym (step_inside n h.rows.states h.rows.cells.now q c hq hc)) (t.next q c hq hc).0
 
-  module _ (closes : Closing h closing) (by_sets : BySets n L) where
-    padded : (u : List ℕ) (k : ℕ) → Columns n u → L (u ++ replicate k 0) ≡ L u
-    padded u k cu = by_sets (u ++ replicate k 0) u (columns_append n u (replicate k 0) cu (columns_zeros n k)) cu (λ j l. zeros_at_end j k u)
-
+  module _ (closes : Closing h closing) where
     -- reading on from the state of a word
     on : (x v : List ℕ) → Columns n x → Columns n v → a.accepts (run a.step (run a.step 0 x) v) ≡ L (x ++ v)
     on x v cx cv = ap a.accepts (sym (run_append a.step 0 x v)) ∙ table_answers n L h.rows.cells.now h.rows.states t (x ++ v) (columns_append n x v cx cv)
 
-    meets_hides : (w : List ℕ) → Columns n w → Meet (reach m w) closing → Hides n i L w
+    meets_hides : (w : List ℕ) → Columns n w → Meet (reach m w) closing → HidesBit n i L w
     unfolding Leads
     meets_hides w cw both =
         let x = (reached w cw both.0).0 both.1 in
         let v = (closes.closes both.0 both.2).1 in
-        beside_hides n i L padded w x.0 v.0 x.1 v.1 x.2 v.2
-        (sym (on x.0 v.0 x.1 v.1) ∙ ap (λ q. a.accepts (run a.step q v.0)) x.3 ∙ v.3)
+        (x.0, v.0, x.1, v.1, x.2, v.2, sym (on x.0 v.0 x.1 v.1) ∙ ap (λ q. a.accepts (run a.step q v.0)) x.3 ∙ v.3)
 
-    hides_meets : (w : List ℕ) → Columns n w → Hides n i L w → Meet (reach m w) closing
+    hides_meets : (w : List ℕ) → Columns n w → HidesBit n i L w → Meet (reach m w) closing
     unfolding Leads
-    hides_meets w cw s =
-        let b = hides_beside n i L padded w cw s in
-        let q : ℕ = run a.step 0 b.0 in (
+    hides_meets w cw (x, v, cx, cv, e, only, is) =
+        let q : ℕ = run a.step 0 x in (
           q,
-          (reached w cw q).1 (b.0, b.2, b.4, refl),
-          closes.every table_inside q (state_after n L h.rows.cells.now h.rows.states t b.0 b.2).0 (b.1, b.3, b.5, on b.0 b.1 b.2 b.3 ∙ b.6),
+          (reached w cw q).1 (x, cx, e, refl),
+          closes.every table_inside q (state_after n L h.rows.cells.now h.rows.states t x cx).0 (v, cv, only, on x v cx cv ∙ is),
         )
 
-    pub language_hides : (w : List ℕ) → Columns n w → Decides (language m w) (Hides n i L w)
+    pub language_hides : (w : List ℕ) → Columns n w → Decides (language m w) (HidesBit n i L w)
     language_hides w cw = Decides-like (language m w) (meets_hides w cw) (hides_meets w cw) (meeting_decides (reach m w) closing)

@@ -15,30 +15,31 @@ pub use state_set::{STATES, StateSet};
 mod tests {
     use super::*;
     use tables::{Counts, Memory, Unexplored};
-    use words::Rows;
+    use words::{Rows, Table};
 
-    // First + second = third: no carry; a carry of one; the third was wrong.
+    // First + second = third: no carry; the third was wrong; a carry of one.
     #[rattlefmt::skip]
-    const SUM: [u16; 27] = [
-        0, 2, 2, 1, 2, 0, 0, 2, 1,
-        2, 1, 1, 2, 0, 2, 2, 1, 0,
-        2, 2, 2, 2, 2, 2, 2, 2, 0,
-    ];
+    const SUM: Table<'static> = Table {
+        rows: Rows {
+            places: 3,
+            states: 3,
+            cells: &[
+                0, 1, 1, 2, 1, 0, 0, 1, 1,
+                1, 1, 1, 1, 1, 1, 1, 1, 0,
+                1, 2, 2, 1, 0, 1, 1, 2, 0,
+            ],
+        },
+    };
 
     // Hides a set of the sum, with memory for three states that is filled with 9.
     fn hide(hidden: u8, budget: usize) -> (Result<Counts, Unexplored>, [u16; 27]) {
-        let rows = Rows {
-            places: 3,
-            states: 3,
-            cells: &SUM,
-        };
         let mut memory = Memory {
             records: &mut [StateSet::empty(); 3],
             links: &mut [9; 24],
             rows: &mut [9; 27],
         };
         let mut table = [9u16; 27];
-        let counts = tabulate_hidden(&rows, hidden, budget, &mut memory, &mut table);
+        let counts = tabulate_hidden(&SUM, hidden, budget, &mut memory, &mut table);
         (counts, table)
     }
 

@@ -6,21 +6,23 @@ use Rattle.std.proofs.lemmas.List.{drop-drop}
 use Rattle.words.specs.Words.{Columns}
 use Rattle.words.specs.Order.{NotLater}
 use Rattle.words.specs.Residuals.{SameResidual, Count}
-use Rattle.words.specs.TableOf.{TableOf}
 use Rattle.words.specs.declared.rows.Rows.{Rows}
 use Rattle.words.proofs.Answering.{accepts_inside}
 use Rattle.words.proofs.TableLaws.{table_counts}
-use Rattle.words.specs.Described.{described}
-use Rattle.judging.specs.Walk.{Tables, FirstLong, Spelled}
+use Rattle.words.specs.Described.{described, language_of, IsTable}
+use Rattle.judging.specs.Walk.{FirstLong, Spelled}
 use Rattle.judging.specs.Earliest.{Earliest, Written}
 use Rattle.judging.specs.Judged.{Says, Shown, Judged}
 use Rattle.judging.specs.Lowest.{LowestState, WrittenFor, verdict_by}
 use Rattle.judging.specs.declared.verdict.Judgement.{Judgement}
-use Rattle.judging.proofs.FirstWords.{not_later_chain}
+use Rattle.words.proofs.FirstWords.{not_later_chain}
 
 -- ---- the earliest word with an answer
 
-module _ (rows : Rows) (L : List ℕ → Bool) (t : Tables rows L) (b : Bool) where
+module _ (rows : Rows) (t : IsTable rows) (b : Bool) where
+  abbrev L : List ℕ → Bool
+  L = language_of rows
+
   -- a state accepts where its first word is in the language
   accepts_is : (s : ℕ) → s < rows.states → (described rows).accepts s ≡ L (t.first s)
   accepts_is s h = accepts_inside rows.places rows.states rows.cells.now s (L (t.first s)) h (t.mark s h)
@@ -50,13 +52,13 @@ module _ (rows : Rows) (L : List ℕ → Bool) (t : Tables rows L) (b : Bool) wh
 
 -- ---- its word in a buffer
 
-module _ (rows : Rows) (b : Bool) (buffer : List ℕ) (room : rows.states ≤ length buffer) where
+module _ (rows : Rows) (t : IsTable rows) (b : Bool) (buffer : List ℕ) (room : rows.states ≤ length buffer) where
   pub written_none : LowestState (described rows) b None → WrittenFor rows b buffer buffer None
-  written_none none = ((refl, refl), λ L t. (no_word rows L t b none, refl))
+  written_none none = ((refl, refl), (no_word rows t b none, refl))
 
   pub written_some : (j count : ℕ) (buffer' : List ℕ) → LowestState (described rows) b (Some j) → FirstLong rows j count
       → Spelled rows j count buffer buffer' → length buffer' ≡ length buffer → WrittenFor rows b buffer buffer' (Some count)
-  written_some j count buffer' low long spelled same = ((same, further), λ L t. (short, same, first L t, spelled.0))
+  written_some j count buffer' low long spelled same = ((same, further), (short, same, first, spelled.0))
     where
       short : count ≤ length buffer
       short = omega (arith, low.0, long.0)
@@ -64,30 +66,35 @@ module _ (rows : Rows) (b : Bool) (buffer : List ℕ) (room : rows.states ≤ le
       further : drop rows.states buffer' ≡ drop rows.states buffer
       further = grind (arith, common_steps, drop-drop (rows.states - count) count buffer', drop-drop (rows.states - count) count buffer, spelled.0, low.0, long.0)
 
-      first : (L : List ℕ → Bool) (t : Tables rows L) → Earliest rows.places (λ w. L w ≡ b) (take count buffer')
-      first L t =
-          subst (Earliest rows.places (λ w. L w ≡ b)) (sym (spelled.1 L t low.0 (long.1 L t low.0))) (earliest_word rows L t b j low)
+      first : Earliest rows.places (λ w. language_of rows w ≡ b) (take count buffer')
+      first =
+          subst (Earliest rows.places (λ w. language_of rows w ≡ b)) (sym (spelled.1 t low.0 (long.1 t low.0))) (earliest_word rows t b j low)
 
 -- ---- the verdict
 
-module _ (n : ℕ) (L : List ℕ → Bool) (met missed met' missed' : List ℕ) where
-  verdict_shown : (w v : Option ℕ) → Written n (λ u. L u ≡ true) met met' w → Written n (λ u. L u ≡ false) missed missed' v
-      → Says n L (verdict_by w v) × Shown (verdict_by w v) w v
-  verdict_shown None None no-witness no-counterexample = absurd (no-counterexample.0 [] tt (false_from_ne_true (L []) (no-witness.0 [] tt)))
-  verdict_shown None (Some j) no-witness counterexample = ((λ u cs. false_from_ne_true (L u) (no-witness.0 u cs)), (refl, refl))
-  verdict_shown (Some i) None witness no-counterexample = ((λ u cs. true_from_ne_false (L u) (no-counterexample.0 u cs)), (refl, refl))
+module _ (rows : Rows) (met missed met' missed' : List ℕ) where
+  -- what the words that there are say of the table
+  abbrev Answered : Bool → List ℕ → List ℕ → Option ℕ → Type 0
+  Answered b = Written rows.places (λ w. language_of rows w ≡ b)
+
+  verdict_shown : (w v : Option ℕ) → Answered true met met' w → Answered false missed missed' v
+      → Says rows.places (language_of rows) (verdict_by w v) × Shown (verdict_by w v) w v
+  verdict_shown None None no-witness no-counterexample = absurd (no-counterexample.0 [] tt (false_from_ne_true (language_of rows []) (no-witness.0 [] tt)))
+  verdict_shown None (Some j) no-witness counterexample = ((λ u cs. false_from_ne_true (language_of rows u) (no-witness.0 u cs)), (refl, refl))
+  verdict_shown (Some i) None witness no-counterexample = ((λ u cs. true_from_ne_false (language_of rows u) (no-counterexample.0 u cs)), (refl, refl))
   verdict_shown (Some i) (Some j) witness counterexample = (
     ((take i met', witness.2.columns, witness.2.serves), (take j missed', counterexample.2.columns, counterexample.2.serves)),
     (refl, refl),
   )
 
-  pub judged : (rows : List ℕ) (size : ℕ) (j : Judgement) → TableOf n L rows size → j.states ≡ size → j.verdict ≡ verdict_by j.witness j.counterexample
-      → Written n (λ u. L u ≡ true) met met' j.witness → Written n (λ u. L u ≡ false) missed missed' j.counterexample
-      → Judged n L met missed met' missed' j
-  judged rows size j t states verdict witness counterexample =
+  pub judged : IsTable rows → (j : Judgement) → j.states ≡ rows.states → j.verdict ≡ verdict_by j.witness j.counterexample
+      → Answered true met met' j.witness → Answered false missed missed' j.counterexample
+      → Judged rows.places (language_of rows) met missed met' missed' j
+  judged t j states verdict witness counterexample =
+      let n : ℕ = rows.places in
       let says = verdict_shown j.witness j.counterexample witness counterexample in record {
-        verdict = subst (Says n L) (sym verdict) says.0;
-        states = subst (Count n (SameResidual n L)) (sym states) (table_counts n L rows size t);
+        verdict = subst (Says n (language_of rows)) (sym verdict) says.0;
+        states = subst (Count n (SameResidual n (language_of rows))) (sym states) (table_counts n (language_of rows) rows.cells.now rows.states t);
         witness = witness;
         counterexample = counterexample;
         shown = subst (λ x. Shown x j.witness j.counterexample) (sym verdict) says.1;

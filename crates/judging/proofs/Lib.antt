@@ -1,6 +1,5 @@
 pub mod Mapped
 pub mod Finding
-pub mod FirstWords
-pub mod Recovered
 pub mod Walks
 pub mod Judgements
+pub mod TestTables

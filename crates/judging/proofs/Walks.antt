@@ -12,15 +12,15 @@ use Rattle.std.proofs.iter.runs.Sources.{nat_range_steps_back}
 use Rattle.words.specs.Rows.{next_of}
 use Rattle.words.specs.declared.rows.Rows.{Rows}
 use Rattle.words.proofs.Answering.{step_inside}
-use Rattle.words.specs.Described.{described}
-use Rattle.judging.specs.Walk.{FirstPair, Follows, Tables, FirstLong, Spelled}
+use Rattle.words.specs.Described.{described, language_of, IsTable}
+use Rattle.judging.specs.Walk.{FirstPair, Follows, FirstLong, Spelled}
 use Rattle.judging.specs.declared.walk.Link.{Link}
 use Rattle.judging.specs.declared.walk.Links.{Links}
-use Rattle.judging.proofs.FirstWords.{some_pair, first_pair}
+use Rattle.words.proofs.FirstWords.{some_pair, first_pair}
 
 -- ---- one step back
 
-module _ (rows : Rows) (L : List ℕ → Bool) (t : Tables rows L) where
+module _ (rows : Rows) (t : IsTable rows) where
   -- inside of the rows, where a column leads is in its cell
   by_cell : (r c : ℕ) → r < rows.states → c < 2 ^ rows.places → (described rows).step r c ≡ next_of rows.places rows.cells.now r c
   by_cell r c hr hc = step_inside rows.places rows.states rows.cells.now r c hr hc
@@ -29,14 +29,14 @@ module _ (rows : Rows) (L : List ℕ → Bool) (t : Tables rows L) where
       → t.first j ≡ t.first link.row ++ link.column ∷ []
   back_some j link hj first =
       let low : link.row < j = first.0 in
-      first_pair rows.places L rows.cells.now rows.states t j link.row link.column hj first.0 first.1.0
+      first_pair rows.places (language_of rows) rows.cells.now rows.states t j link.row link.column hj first.0 first.1.0
       (sym (by_cell link.row link.column (omega arith) first.1.0) ∙ first.1.1)
       (λ s d hs hd is. first.2 s d hs (hd, by_cell s d (omega arith) hd ∙ is))
 
   pub back_none : (j : ℕ) → j < rows.states → FirstPair (described rows) j None → t.first j ≡ []
   back_none zero hj none = t.start
   back_none (suc j) hj none =
-      let p = some_pair rows.places L rows.cells.now rows.states t (suc j) (omega arith) hj in
+      let p = some_pair rows.places (language_of rows) rows.cells.now rows.states t (suc j) (omega arith) hj in
       let low : p.0 < suc j = p.2 in
       absurd (none p.0 p.1 low (p.3, by_cell p.0 p.1 (omega arith) p.3 ∙ p.4))
 
@@ -46,7 +46,7 @@ module _ (rows : Rows) where
   one_more : (j : ℕ) (link : Link) (k : ℕ) → FirstPair (described rows) j (Some link) → FirstLong rows link.row k → FirstLong rows j (suc k)
   one_more j link k first rest = (
     omega (arith, first.0, rest.0),
-    λ L t h. omega (arith, ap length (back_some rows L t j link h first), length_push (t.first link.row) link.column, rest.1 L t (omega (arith, first.0))),
+    λ t h. omega (arith, ap length (back_some rows t j link h first), length_push (t.first link.row) link.column, rest.1 t (omega (arith, first.0))),
   )
 
   -- there are as many links from a state as its first word has columns
@@ -54,7 +54,7 @@ module _ (rows : Rows) where
   links_long [] s t u is y end =
       let here : Follows s None u = subst (λ (q : Links). Follows q None u) (sym y) end in
       let none : FirstPair (described rows) s.at None = subst (λ (r : Rows). FirstPair (described r) s.at None) is here.0 in
-      (omega arith, λ L t h. ap length (back_none rows L t s.at h none))
+      (omega arith, λ t h. ap length (back_none rows t s.at h none))
   links_long (x ∷ xs) s t u is (j, step, y) end =
       one_more s.at x (length xs) (subst (λ (r : Rows). FirstPair (described r) s.at (Some x)) is step.0)
       (subst (λ i. FirstLong rows i (length xs)) step.2 (links_long xs j t u (ap (λ r. r.now) step.1 ∙ is) y end))
@@ -83,7 +83,7 @@ module _ (rows : Rows) (state count : ℕ) (before : List ℕ) where
     pub over : (links turns).rows.now ≡ rows
     pub low : (links turns).at ≤ state
     pub behind : drop count buffer ≡ drop count before
-    pub spelled : (L : List ℕ → Bool) (t : Tables rows L) → state < rows.states → length (t.first state) ≡ count
+    pub spelled : (t : IsTable rows) → state < rows.states → length (t.first state) ≡ count
         → t.first state ≡ t.first (links turns).at ++ take (count - (places turns).end) (drop (places turns).end buffer)
 
   module _ (buffer : List ℕ) (room : count ≤ length buffer) (turns turns' : Turns) (writing : Writing buffer turns) where
@@ -107,25 +107,25 @@ module _ (rows : Rows) (state count : ℕ) (before : List ℕ) where
           over = ap (λ r. r.now) same ∙ writing.over;
           low = omega (arith, at, first.0, writing.low);
           behind = drop-set-lt count buffer k link.column left ∙ writing.behind;
-          spelled = λ L t h is.
-              let back : t.first (links turns).at ≡ t.first link.row ++ link.column ∷ [] = back_some rows L t (links turns).at link (omega (arith, writing.low)) (here (Some link) first) in
-              grind (arith, common_steps, writing.spelled L t h is, written_more k link.column left, at);
+          spelled = λ t h is.
+              let back : t.first (links turns).at ≡ t.first link.row ++ link.column ∷ [] = back_some rows t (links turns).at link (omega (arith, writing.low)) (here (Some link) first) in
+              grind (arith, common_steps, writing.spelled t h is, written_more k link.column left, at);
         }
 
     -- no place is left, or no link: in a table it is both, and the whole word is written
     pub writing_end : Turn turns None turns' → Spelled rows state count before buffer
-    writing_end end = (writing.behind, λ L t h is. whole L t h is)
+    writing_end end = (writing.behind, λ t h is. whole t h is)
       where
-        whole : (L : List ℕ → Bool) (t : Tables rows L) → state < rows.states → length (t.first state) ≡ count → take count buffer ≡ t.first state
-        whole L t h is =
+        whole : (t : IsTable rows) → state < rows.states → length (t.first state) ≡ count → take count buffer ≡ t.first state
+        whole t h is =
             let k = (places turns).end in
             let rest = take (count - k) (drop k buffer) in
             let parts : length (t.first (links turns).at) + (count - k) ≡ count =
-            omega (arith, is, ap length (writing.spelled L t h is), length-append (t.first (links turns).at) rest, length-take-le (count - k) (drop k buffer) (omega (arith, room, length-drop k buffer))) in
+            omega (arith, is, ap length (writing.spelled t h is), length-append (t.first (links turns).at) rest, length-take-le (count - k) (drop k buffer) (omega (arith, room, length-drop k buffer))) in
             let none : length (t.first (links turns).at) ≡ 0 =
             elim end [
               | inl e ↦ omega (arith, parts, writing.within, writing.from, e.1.1.0)
-              | inr e ↦ ap length (back_none rows L t (links turns).at (omega (arith, writing.low)) (here None e.1.0))
+              | inr e ↦ ap length (back_none rows t (links turns).at (omega (arith, writing.low)) (here None e.1.0))
             ] in
             let done : k ≡ 0 = omega (arith, none, parts, writing.within) in
-            grind (arith, common_steps, writing.spelled L t h is, nil_from_length (t.first (links turns).at) none)
+            grind (arith, common_steps, writing.spelled t h is, nil_from_length (t.first (links turns).at) none)

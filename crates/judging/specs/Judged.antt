@@ -2,7 +2,7 @@
 use Rattle.std.specs.Prelude.{◌≡◌, ℕ, ◌<◌, ◌≤◌, Bool, true, false, ◌⊎◌, List, length, drop, is_some, Some, None, Option}
 use Rattle.words.specs.Words.{Columns}
 use Rattle.words.specs.Residuals.{SameResidual, Count}
-use Rattle.words.specs.TableOf.{TableOf}
+use Rattle.words.specs.Described.{language_of}
 use Rattle.words.specs.declared.rows.Rows.{Rows}
 use Rattle.judging.specs.Earliest.{Written}
 use Rattle.judging.specs.declared.verdict.Judgement.{Judgement}
@@ -34,8 +34,8 @@ pub record Judged (n : ℕ) (L : List ℕ → Bool) (met missed met' missed' : L
 abbrev pub Behind : ℕ → List ℕ → List ℕ → Type 0
 Behind states buffer buffer' = (length buffer' ≡ length buffer) × (drop states buffer' ≡ drop states buffer)
 
--- The answer of `judge_rows`. None, where a buffer has fewer bytes than there are states, and both are as they were. Else the
--- judgement of every language that the rows are the table of; and in any memory the bytes behind stay.
+-- The answer of `judge_table`. None, where a buffer has fewer bytes than there are states, and both are as they were. Else the
+-- judgement of the words that the table accepts, and the bytes from as many as there are states on stay.
 abbrev pub Judges : Rows → List ℕ → List ℕ → List ℕ → List ℕ → Option Judgement → Type 0
 Judges rows met missed met' missed' None =
     ((length met < rows.states) ⊎ (length missed < rows.states)) × (met' ≡ met) × (missed' ≡ missed)
@@ -43,4 +43,4 @@ Judges rows met missed met' missed' (Some j) =
     (rows.states ≤ length met) × (rows.states ≤ length missed)
     × (j.states ≡ rows.states)
     × Behind rows.states met met' × Behind rows.states missed missed'
-    × ((L : List ℕ → Bool) → TableOf rows.places L rows.cells.now rows.states → Judged rows.places L met missed met' missed' j)
+    × Judged rows.places (language_of rows) met missed met' missed' j

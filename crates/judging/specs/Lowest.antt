@@ -2,8 +2,8 @@
 -- can pass over this file.
 use Rattle.std.specs.Prelude.{◌≡◌, ℕ, ◌<◌, Bool, List, Some, None, Option, MatchOption, ◌≢◌}
 use Rattle.words.specs.Automata.{Automaton}
+use Rattle.words.specs.Described.{language_of}
 use Rattle.words.specs.declared.rows.Rows.{Rows}
-use Rattle.judging.specs.Walk.{Tables}
 use Rattle.judging.specs.Earliest.{Written}
 use Rattle.judging.specs.Judged.{Behind}
 use Rattle.judging.specs.declared.verdict.Verdict.{Verdict}
@@ -14,11 +14,10 @@ abbrev pub LowestState : Automaton → Bool → Option ℕ → Type 0
 LowestState a b r =
     MatchOption r ((s : ℕ) → s < a.states → a.accepts s ≢ b) (λ j. (j < a.states) × (a.accepts j ≡ b) × ((s : ℕ) → s < j → a.accepts s ≢ b))
 
--- the earliest word with answer b, in every language that the rows are the table of
+-- the earliest word to which the rows answer b
 abbrev pub WrittenFor : Rows → Bool → List ℕ → List ℕ → Option ℕ → Type 0
 WrittenFor rows b buffer buffer' told =
-    Behind rows.states buffer buffer'
-    × ((L : List ℕ → Bool) → Tables rows L → Written rows.places (λ w. L w ≡ b) buffer buffer' told)
+    Behind rows.states buffer buffer' × Written rows.places (λ w. language_of rows w ≡ b) buffer buffer' told
 
 -- the verdict by which words there are
 abbrev pub verdict_by : Option ℕ → Option ℕ → Verdict

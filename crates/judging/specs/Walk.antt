@@ -1,9 +1,8 @@
 -- Walks from a state back to the start: contracts of the functions within. A reader of the statement can pass over this file.
-use Rattle.std.specs.Prelude.{◌≡◌, ℕ, ◌^◌, ◌<◌, ◌≤◌, Bool, ◌⊎◌, List, length, take, drop, Option, MatchOption}
+use Rattle.std.specs.Prelude.{◌≡◌, ℕ, ◌^◌, ◌<◌, ◌≤◌, ◌⊎◌, List, length, take, drop, Option, MatchOption}
 use Rattle.words.specs.Automata.{Automaton}
 use Rattle.words.specs.Order.{Before, PairNotAfter}
-use Rattle.words.specs.Described.{described}
-use Rattle.words.specs.TableOf.{TableOf}
+use Rattle.words.specs.Described.{described, IsTable}
 use Rattle.words.specs.declared.rows.Rows.{Rows}
 use Rattle.judging.specs.declared.walk.Link.{Link}
 use Rattle.judging.specs.declared.walk.Links.{Links}
@@ -28,16 +27,12 @@ FirstPair a j found =
 abbrev pub Follows : Links → Option Link → Links → Type 0
 Follows s r t = FirstPair (described s.rows.now) s.at r × (t.rows ≡ s.rows) × MatchOption r (t.at ≡ s.at) (λ link. t.at ≡ link.row)
 
--- the rows are the table of L
-abbrev pub Tables : Rows → (List ℕ → Bool) → Type 0
-Tables rows L = TableOf rows.places L rows.cells.now rows.states
-
 -- in a table, k is the length of the first word of a state; in any memory it is not more than the state
 abbrev pub FirstLong : Rows → ℕ → ℕ → Type 0
-FirstLong rows state k = (k ≤ state) × ((L : List ℕ → Bool) (t : Tables rows L) → state < rows.states → length (t.first state) ≡ k)
+FirstLong rows state k = (k ≤ state) × ((t : IsTable rows) → state < rows.states → length (t.first state) ≡ k)
 
 -- in a table, the first k bytes are now the first word of a state, if it is so long; in any memory the bytes behind are as they were
 abbrev pub Spelled : Rows → ℕ → ℕ → List ℕ → List ℕ → Type 0
 Spelled rows state k buffer buffer' =
     (drop k buffer' ≡ drop k buffer)
-    × ((L : List ℕ → Bool) (t : Tables rows L) → state < rows.states → length (t.first state) ≡ k → take k buffer' ≡ t.first state)
+    × ((t : IsTable rows) → state < rows.states → length (t.first state) ≡ k → take k buffer' ≡ t.first state)

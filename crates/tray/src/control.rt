@@ -1,15 +1,16 @@
 //! The control record of a tray, and where its tables lie.
 ghost use Rattle.std.specs.Prelude.{◌≡◌, ℕ, ◌+◌, ◌-◌, ◌*◌, ◌<◌, ◌≤◌, length, drop, slice_index, slice_set};
 ghost use Rattle.words.specs.Rows.{width};
+ghost use Rattle.words.specs.Described.{language_of};
 ghost use Rattle.tables.specs.Tabulated.{Elsewhere};
-ghost use Rattle.tray.specs.View.{slot, size_of, rows_of, moved, Within};
+ghost use Rattle.tray.specs.View.{slot, size_of, rows_of, moved, Within, Stands};
 ghost use Rattle.tables.specs.Room.{Room};
 ghost use Rattle.tray.specs.Aside.{Aside, HiddenAside};
 ghost use Rattle.tray.specs.Flipped.{Flipped};
 
 use hiding::{StateSet, tabulate_hidden};
 use tables::{Counts, Kind, Limits, Memory, Unexplored, tabulate};
-use words::Rows;
+use words::{Rows, Table};
 
 /// The settings of a tray, how many tables it holds, and how many states each of them has, lowest table first.
 #[derive(Clone, Copy)]
@@ -74,6 +75,19 @@ impl Control {
         }
     }
 
+    // The table in slot k.
+    pub(crate) fn table<'t>(&self, tables: &'t [u16], k: usize) -> Table<'t>
+        requires within { Within self.now k (length tables.now) }
+        requires stands { ∥ Stands self.now tables.now k ∥₁ }
+        ensures places { result.rows.places ≡ self.now.sets }
+        ensures states { result.rows.states ≡ size_of self.now k }
+        ensures cells { result.rows.cells.now ≡ rows_of self.now tables.now k }
+    {
+        Table {
+            rows: self.rows(tables, k),
+        }
+    }
+
     // Explores a kind in the work space, and writes its table into the second slot of it. The budget is at most that of
     // the tray.
     pub(crate) fn explore<K: Kind>(
@@ -102,30 +116,28 @@ impl Control {
         tabulate(kind, limits, &mut memory, fresh, 0)
     }
 
-    // Explores the sets of states of table k with a set hidden, as `explore` does a kind.
+    // Explores the sets of states of a table of the tray with a set hidden, as `explore` does a kind.
     pub(crate) fn explore_hidden(
         &self,
-        tables: &[u16],
-        k: usize,
+        table: &Table,
         set: u8,
         records: &mut [StateSet],
         links: &mut [u16],
         spare: &mut [u16],
     ) -> Result<Counts, Unexplored>
-        requires within { Within self.now k (length tables.now) }
+        requires within { self.now.budget ≤ 512 }
         requires room { Room self.now.sets self.now.budget (length records.old) (length links.old) (slot self.now) }
-        requires ready { (set < self.now.sets) × (size_of self.now k ≤ 512) }
+        requires ready { (table.now.rows.places ≡ self.now.sets) × (set < self.now.sets) × (table.now.rows.states ≤ 512) }
         requires work { 2 * slot self.now ≤ length spare.old }
-        ensures { HiddenAside self.now tables.now k set (drop (slot self.now) spare.new) result }
+        ensures { HiddenAside self.now.sets self.now.budget (language_of table.now.rows) set (drop (slot self.now) spare.new) result }
     {
-        let table = self.rows(tables, k);
         let (rows, fresh) = spare.split_at_mut(self.slot_length());
         let mut memory = Memory {
             records,
             links,
             rows,
         };
-        tabulate_hidden(&table, set, self.budget, &mut memory, fresh)
+        tabulate_hidden(table, set, self.budget, &mut memory, fresh)
     }
 
     // Copies the table that was made at the front of the second slot of `spare` into slot k, which becomes the top. Answers the counts.

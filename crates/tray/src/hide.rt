@@ -45,7 +45,8 @@ impl<'m, 's> Tray<'m, 's> {
         let top = control.count - 1;
         let held: &mut [u16] = tables;
         let work: &mut [u16] = spare;
-        let counts = control.explore_hidden(held, top, set, records, links, work)?;
+        let table = control.table(held, top);
+        let counts = control.explore_hidden(&table, set, records, links, work)?;
         Ok(control.land(held, work, top, counts))
     }
 }

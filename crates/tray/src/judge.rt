@@ -4,7 +4,7 @@ ghost use Rattle.tray.specs.Calls.{JudgesTop};
 
 use crate::refusal::Refusal;
 use crate::tray::Tray;
-use judging::{Judgement, judge_rows};
+use judging::{Judgement, judge_table};
 
 impl<'m, 's> Tray<'m, 's> {
     /// Whether no sets meet the claim on top, some or all; how many states its table has; and the earliest of the
@@ -20,8 +20,7 @@ impl<'m, 's> Tray<'m, 's> {
         if control.count < 1 {
             return Err(Refusal::TooFewTables);
         }
-        let top = control.count - 1;
-        let table = control.rows(self.tables, top);
-        judge_rows(&table, witness, counterexample).ok_or(Refusal::NoBuffer)
+        let table = control.table(self.tables, control.count - 1);
+        judge_table(&table, witness, counterexample).ok_or(Refusal::NoBuffer)
     }
 }

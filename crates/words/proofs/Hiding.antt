@@ -5,9 +5,11 @@ use Rattle.std.proofs.lemmas.Bool.{cases_eq, cases_lt}
 use Rattle.std.proofs.lemmas.List.{append-nil}
 use Rattle.words.specs.Sets.{bit}
 use Rattle.words.specs.Words.{Columns, coded}
-use Rattle.words.specs.Hiding.{turned, AgreeBut, EqualBut, OnlyBit, Hides}
+use Rattle.words.specs.Residuals.{BySets}
+use Rattle.words.specs.Hiding.{turned, AgreeBut, EqualBut, OnlyBit, Hides, HidesBit}
+use Rattle.words.specs.HidingLaws.{BitsAreSets}
 use Rattle.words.proofs.Bits.{bit_small, bit_of_zero, bit_low, bit_high, bit_past, bits_equal}
-use Rattle.words.proofs.Coding.{columns_append}
+use Rattle.words.proofs.Coding.{columns_append, columns_zeros, zeros_at_end}
 
 -- ---- columns with another bit i
 
@@ -98,14 +100,17 @@ beside n i (c ∷ u) (d ∷ w) cu cw same =
 
 -- ---- the look past the end
 
--- A language that depends only on the sets coded hides set i of w exactly when a word that is equal to w but for bit i, and
--- then columns with no bit but i, is in it.
-module _ (n i : ℕ) (L : List ℕ → Bool) (padded : (u : List ℕ) (k : ℕ) → Columns n u → L (u ++ replicate k 0) ≡ L u) where
-  pub hides_beside : (w : List ℕ) → Columns n w → Hides n i L w
-      → (x : List ℕ) × (v : List ℕ) × Columns n x × Columns n v × EqualBut i x w × OnlyBit i v × (L (x ++ v) ≡ true)
-  hides_beside w cw h =
-      let b = beside n i h.0 w h.1 cw h.2 in
-      (b.0, b.1, b.4, b.5, b.6, b.7, ap L (sym b.3) ∙ padded h.0 b.2 h.1 ∙ h.3)
+-- zeros at the end change no set, and so no answer of a language that depends only on the sets coded
+padded : (n : ℕ) (L : List ℕ → Bool) → BySets n L → (u : List ℕ) (k : ℕ) → Columns n u → L (u ++ replicate k 0) ≡ L u
+padded n L by_sets u k cu = by_sets (u ++ replicate k 0) u (columns_append n u (replicate k 0) cu (columns_zeros n k)) cu (λ j l. zeros_at_end j k u)
 
-  pub beside_hides : (w x v : List ℕ) → Columns n x → Columns n v → EqualBut i x w → OnlyBit i v → L (x ++ v) ≡ true → Hides n i L w
-  beside_hides w x v cx cv e o is = (x ++ v, columns_append n x v cx cv, (λ j l other. longer_codes i x w v e o j other), is)
+pub bits_are_sets : BitsAreSets
+bits_are_sets n i L by_sets w cw = (to, from)
+  where
+    to : HidesBit n i L w → Hides n i L w
+    to (x, v, cx, cv, e, o, is) = (x ++ v, columns_append n x v cx cv, (λ j l other. longer_codes i x w v e o j other), is)
+
+    from : Hides n i L w → HidesBit n i L w
+    from h =
+        let b = beside n i h.0 w h.1 cw h.2 in
+        (b.0, b.1, b.4, b.5, b.6, b.7, ap L (sym b.3) ∙ padded n L by_sets h.0 b.2 h.1 ∙ h.3)

@@ -18,3 +18,6 @@ pub mod Hiding
 pub mod Truths
 pub mod Copies
 pub mod Negations
+pub mod FirstWords
+pub mod Recovered
+pub mod Tested

@@ -24,7 +24,7 @@ table_counts n L rows k t = record {
 }
 
 -- neither is later than the other
-level : (u w : List ℕ) → NotLater u w → NotLater w u → u ≡ w
+pub level : (u w : List ℕ) → NotLater u w → NotLater w u → u ≡ w
 level u w (inl e) later = e
 level u w (inr p) (inl e) = sym e
 level u w (inr p) (inr q) = absurd (never u (chain u w u p q))

@@ -1,5 +1,5 @@
 -- Hiding a set: columns and words that differ from others only in the bit of that set.
-use Rattle.std.specs.Prelude.{◌≡◌, ℕ, zero, suc, ◌+◌, ◌*◌, ◌/◌, ◌%◌, ◌<◌, Bool, true, List, [], ◌∷◌, ◌≢◌}
+use Rattle.std.specs.Prelude.{◌≡◌, ℕ, zero, suc, ◌+◌, ◌*◌, ◌/◌, ◌%◌, ◌<◌, Bool, true, List, [], ◌∷◌, ◌++◌, ◌≢◌}
 use Rattle.words.specs.Sets.{bit}
 use Rattle.words.specs.Words.{Columns, coded}
 use Rattle.words.specs.Residuals.{SameResidual}
@@ -28,6 +28,11 @@ OnlyBit i (c ∷ v) = AgreeBut i c 0 × OnlyBit i v
 -- some word of the language codes the same sets as w, but perhaps for set i: it may be longer than w
 abbrev pub Hides : ℕ → ℕ → (List ℕ → Bool) → List ℕ → Type 0
 Hides n i L w = (u : List ℕ) × Columns n u × ((j : ℕ) → j < n → (j ≢ i) → coded j u ≡ coded j w) × (L u ≡ true)
+
+-- Some word that is equal to w but for bit i, followed by columns with no bit but i, is in the language. Of a language that
+-- depends only on the sets coded, this is what `Hides` says.
+abbrev pub HidesBit : ℕ → ℕ → (List ℕ → Bool) → List ℕ → Type 0
+HidesBit n i L w = (x : List ℕ) × (v : List ℕ) × Columns n x × Columns n v × EqualBut i x w × OnlyBit i v × (L (x ++ v) ≡ true)
 
 -- each word that is equal to u but for bit i is the same as a word that is equal to w but for bit i
 abbrev pub CollectsBy : ℕ → ℕ → (List ℕ → List ℕ → Type 0) → List ℕ → List ℕ → Type 0

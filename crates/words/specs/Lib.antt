@@ -13,3 +13,4 @@ pub mod TableLaws
 pub mod Formulas
 pub mod Hiding
 pub mod Meanings
+pub mod HidingLaws

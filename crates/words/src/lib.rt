@@ -3,10 +3,12 @@
 
 mod laws;
 mod rows;
+mod table;
 mod word;
 
-pub use laws::{laws_of_tables, laws_of_words};
+pub use laws::{laws_of_hiding, laws_of_tables, laws_of_words};
 pub use rows::{Rows, cell, put};
+pub use table::Table;
 pub use word::{first_outside, in_set, is_column, is_member, nth_column, number};
 
 #[cfg(test)]

@@ -1,4 +1,5 @@
 use Rattle.std.proofs.Common.{rules, ◌≡◌, ◌-◌, length, arith}
+use Rattle.tray.specs.View.{slot}
 use Rattle.tray.proofs.Hidings.{hidden_aside}
 use Rattle.tray.proofs.control.Control.explore_hidden.Goals as goal
 
@@ -7,10 +8,8 @@ returns c =
     let k = c.args.self.now in
     let room = c.requires.room in
     let back : length c.split_at_mut-rows.result.1.now ≡ length c.args.spare.now - c.slot_length.result = omega (arith, c.split_at_mut-rows.ensures.back_len) in
-    hidden_aside k c.args.tables.now c.args.k c.args.set c.rows-table.result.places c.rows-table.result.states c.rows-table.result.cells.now
-    c.rows-table.ensures.places c.rows-table.ensures.states c.rows-table.ensures.cells
-    c.args.records.now c.args.links.now c.split_at_mut-rows.result.0.now c.split_at_mut-rows.result.1.now
-    c.tabulate_hidden.new.memory.records.now c.tabulate_hidden.new.memory.links.now c.tabulate_hidden.new.memory.rows.now c.tabulate_hidden.new.table (
+    hidden_aside k.sets k.budget c.args.table.now.rows c.requires.ready.0 c.args.set _ _ c.tabulate_hidden.ensures.owners
+    c.split_at_mut-rows.result.1.now c.tabulate_hidden.new.out (
       (
         record {
           sets = room.sets;
@@ -22,7 +21,7 @@ returns c =
         },
         omega (arith, back, c.slot_length.ensures.is, c.requires.work),
       ),
-      c.requires.ready.0,
       c.requires.ready.1,
+      c.requires.ready.2,
     )
-    _ c.tabulate_hidden.result (search rules) c.tabulate_hidden.ensures.found
+    _ (slot k) c.tabulate_hidden.result (search rules) c.tabulate_hidden.ensures.found

@@ -15,7 +15,10 @@ use Rattle.words.specs.Residuals.{SameResidual}
 use Rattle.words.specs.TableOf.{TableOf}
 use Rattle.words.proofs.Orders.{never, chain, word_order}
 use Rattle.words.proofs.Answering.{state_after}
-use Rattle.judging.proofs.FirstWords.{level, not_earlier}
+use Rattle.words.proofs.FirstWords.{not_earlier}
+use Rattle.words.proofs.TableLaws.{level}
+use Rattle.words.specs.Described.{language_of, IsTable}
+use Rattle.words.specs.declared.table.Table.{Table}
 
 -- ---- what has at most one proof, or can be decided, can be had again from the bare fact
 
@@ -148,3 +151,7 @@ module _ (n : ℕ) (L : List ℕ → Bool) (rows : List ℕ) (size : ℕ) where
 
 pub recovered : (n : ℕ) (L : List ℕ → Bool) (rows : List ℕ) (size : ℕ) → ∥ TableOf n L rows size ∥₁ → TableOf n L rows size
 recovered = again
+
+-- what a table keeps true
+pub table_of : (t : Table) → IsTable t.rows
+table_of t = recovered t.rows.places (language_of t.rows) t.rows.cells.now t.rows.states t.is_table

@@ -11,19 +11,14 @@ use Rattle.words.specs.TableOf.{TableOf}
 use Rattle.words.proofs.Orders.{never, chain, push_before, push_same}
 use Rattle.words.proofs.Coding.{columns_push, columns_front, columns_last}
 use Rattle.words.proofs.Runs.{snoc_ind}
-
--- neither is later than the other
-pub level : (u w : List ℕ) → NotLater u w → NotLater w u → u ≡ w
-level u w (inl e) later = e
-level u w (inr p) (inl e) = sym e
-level u w (inr p) (inr q) = absurd (never u (chain u w u p q))
+use Rattle.words.proofs.TableLaws.{level}
 
 pub not_later_chain : (u w v : List ℕ) → NotLater u w → NotLater w v → NotLater u v
 not_later_chain u w v (inl e) k = subst (λ x. NotLater x v) (sym e) k
 not_later_chain u w v (inr p) (inl e) = inr (subst (Precedes u) e p)
 not_later_chain u w v (inr p) (inr q) = inr (chain u w v p q)
 
-not_later_push : (u w : List ℕ) (c : ℕ) → NotLater u w → NotLater (u ++ c ∷ []) (w ++ c ∷ [])
+pub not_later_push : (u w : List ℕ) (c : ℕ) → NotLater u w → NotLater (u ++ c ∷ []) (w ++ c ∷ [])
 not_later_push u w c (inl e) = inl (ap (λ x. x ++ c ∷ []) e)
 not_later_push u w c (inr p) = inr (push_before u w c c p)
 

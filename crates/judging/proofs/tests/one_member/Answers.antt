@@ -1,0 +1,5 @@
+use Rattle.judging.proofs.TestTables as table
+use Rattle.judging.proofs.tests.one_member.Goals as goal
+
+pub invariant_of-judged-2 : goal.invariant_of-judged-2
+invariant_of-judged-2 g c = record { is_table = ∣ table.one_member ∣₁ }
