@@ -32,7 +32,8 @@ import urllib.parse
 sys.dont_write_bytecode = True
 from faults import inputs, question  # noqa: E402
 from rules import (  # noqa: E402
-    NESTING, PLACES, TEXT, Automaton, Bound, Joined, Negated, Placed, Reader, Refused, Tray, asked, build, explored, smallest)
+    NESTING, PLACES, TEXT, Answer, Automaton, Bound, Joined, Negated, Placed, Reader, Refused, Tray, answer, asked, build, explored,
+    shown, smallest)
 
 SEED = 20
 SETS, BUDGET, DEPTH = 4, 64, 8
@@ -46,7 +47,7 @@ def read(text):
 
 
 def tokens_of(text):
-    return re.findall(r"[A-Za-z]+|[^A-Za-z ]", text)
+    return re.findall(r"[A-Za-z]+|[^A-Za-z \n]", text)
 
 
 def spelt(formula):
@@ -100,50 +101,17 @@ def parts_of(formula):
             yield from parts_of(right)
 
 
-# ---- Answers ----
-
-def earliest(automaton, accepting):
-    """The earliest of the shortest words that end so, or None. States are met in the order of their earliest words."""
-    words = {0: ()}
-    for state in (met := [0]):
-        if automaton.accepts[state] == accepting:
-            return words[state]
-        for column, after in enumerate(automaton.rows[state]):
-            if after not in words:
-                words[after] = *words[state], column
-                met.append(after)
-    return None
-
+# ---- Words ----
 
 def ends_accepting(automaton, word):
     return automaton.accepts[functools.reduce(lambda state, column: automaton.rows[state][column], word, 0)]
 
 
 def first_by_trial(automaton, accepting, most=5_000):
-    """The same by trying word after word in their order; None where none of the first words ends so."""
+    """The earliest word that ends so, by trying word after word; None where none of the first words does."""
     columns = range(len(automaton.rows[0]))
     words = (word for length in range(len(automaton.rows)) for word in itertools.product(columns, repeat=length))
     return next((word for word in itertools.islice(words, most) if ends_accepting(automaton, word) == accepting), None)
-
-
-def shown(word):
-    return "-" if word is None else ",".join(map(str, word)) or "."
-
-
-class Answer(typing.NamedTuple):
-    verdict: str
-    states: int
-    witness: tuple | None
-    counter: tuple | None
-
-    def line(self):
-        return f"{self.verdict} {self.states} {shown(self.witness)} {shown(self.counter)}"
-
-
-def answer(automaton):
-    witness, counter = earliest(automaton, True), earliest(automaton, False)
-    verdict = "none" if witness is None else "all" if counter is None else "some"
-    return Answer(verdict, len(smallest(automaton).rows), witness, counter)
 
 
 # ---- MONA ----

@@ -1,22 +1,22 @@
 #!/usr/bin/env python3
-"""Feeds odd inputs to the built program `decide`, and counts crashes and hangs. Usage, at the top:
+"""Feeds odd inputs to the built program `decide`, and counts wrong answers, crashes and hangs. Usage, at the top:
 
     python3 tools/robust.py crates/decide/out/decide [COUNT] [--seed N] [--seconds N]
 
 An input is bytes at random, or a right question whose bytes were changed, cut off, repeated or doubled, whose numbers are
-at the limits and past them, or whose text is long or deeply nested. A crash is any exit status but 0, anything on standard
-error, and any output but the two lines of an answer or of a refusal, with values that can stand there. A hang is a run of
-more than so many seconds. Exit status 1 says that there was one of either. The same seed makes the same inputs."""
+at the limits and past them, or whose text is long or deeply nested. A crash is any exit status but 0 and anything on standard
+error. A wrong answer is any output but the two lines that the rules owe to the input, as tools/rules.py works them out. A hang
+is a run of more than so many seconds. Exit status 1 says that there was one of these. The same seed makes the same inputs."""
 import argparse
 import collections
 import pathlib
 import random
-import re
 import subprocess
 import sys
 
-HEADING = b"sets budget depth\n"
-MARKS = b"~&|>?!"
+sys.dont_write_bytecode = True
+from rules import HEADING, MARKS, owed  # noqa: E402
+
 PLACES = {b"sub": 2, b"one": 1, b"suc": 2, b"les": 2, b"sum": 3, b"emp": 1}
 NAMES = [*PLACES, b"abc", b"zzz", b"onE", b"oneA", b"on"]
 BYTES_OF_TEXTS = MARKS + b" \n\0\t\r,.-0189AZaz\x7f\x80\xff"
@@ -27,12 +27,6 @@ BUDGETS = [b"0", b"1", b"2", b"3", b"8", b"32", b"63", b"64", b"65", b"256", b"5
 DEPTHS = [b"0", b"1", b"2", b"3", b"7", b"8", b"9", b"15", b"16", b"17"]
 ODD = [b"", b"00", b"01", b"+1", b"-1", b" 1", b"1 ", b"1.0", b"1e3", b"0x4", b"four", b"65535", b"65536", b"99999",
        b"4294967296", b"4294967300", b"18446744073709551616", b"18446744073709551620", b"9" * 40, b"\xc2\xb2", b"4\r"]
-
-# The numbers of refusals by layer.
-LAYERS = {1: {9, 10, 16, 17}, 2: {11, 12, 13, 14, 15}, 3: {1, 2, 3, 4, 21, 23}}
-WORD = rb"(?:-|\.|\d+(?:,\d+)*)"
-ANSWER = re.compile(rb"verdict states witness counter\n(none|some|all) ([1-9]\d*) (" + WORD + rb") (" + WORD + rb")\n")
-REFUSAL = re.compile(rb"refusal layer place\n(\d+) (\d+) (\d+)\n")
 
 
 # ---- Inputs ----
@@ -174,33 +168,8 @@ KINDS = {at_random: 2, heading_and_bytes: 2, tokens_in_any_order: 2, formulas: 4
 
 # ---- What comes of them ----
 
-def is_word(word, sets, states):
-    """Whether a word can stand in an answer: shorter than the states are many, of columns over the sets."""
-    if word in (b"-", b"."):
-        return True
-    columns = [int(column) for column in word.split(b",")]
-    return len(columns) < states and all(column < 2 ** sets for column in columns) and b",".join(b"%d" % column for column in columns) == word
-
-
-def outcome(given, output):
-    """The verdict or the number of the refusal, or None for any other output."""
-    lines = given.split(b"\n", 2)
-    if said := REFUSAL.fullmatch(output):
-        number, layer, place = (int(value) for value in said.groups())
-        text = lines[2] if len(lines) == 3 else b""
-        return number if number in LAYERS.get(layer, ()) and place <= len(text) else None
-    if said := ANSWER.fullmatch(output):
-        verdict, states, witness, counter = said.groups()
-        sets, budget, _ = (int(value) for value in lines[1].split())
-        absent = {b"none": (True, False), b"some": (False, False), b"all": (False, True)}[verdict]
-        right = (absent == (witness == b"-", counter == b"-") and int(states) <= budget
-                 and all(is_word(word, sets, int(states)) for word in (witness, counter)))
-        return verdict.decode() if right else None
-    return None
-
-
 def main():
-    arguments = argparse.ArgumentParser(description="Feeds odd inputs to decide, and counts crashes and hangs.")
+    arguments = argparse.ArgumentParser(description="Feeds odd inputs to decide, and counts wrong answers, crashes and hangs.")
     arguments.add_argument("program", type=pathlib.Path)
     arguments.add_argument("count", type=int, nargs="?", default=20_000)
     arguments.add_argument("--seed", type=int, default=1)
@@ -222,15 +191,19 @@ def main():
             wrong["hangs"] += 1
             print(f"HANG {odd!r}")
             continue
-        said = outcome(odd, run.stdout)
-        if run.returncode or run.stderr or said is None:
+        if run.returncode or run.stderr:
             wrong["crashes"] += 1
             print(f"CRASH {odd!r}: status {run.returncode}, output {run.stdout!r}, errors {run.stderr!r}")
             continue
-        outcomes[said] += 1
+        lines = owed(odd)
+        if run.stdout != lines.encode():
+            wrong["wrong answers"] += 1
+            print(f"WRONG {odd!r}: output {run.stdout!r}, owed {lines!r}")
+            continue
+        outcomes[lines.split("\n")[1].split(" ")[0]] += 1
     print(f"{given.count} inputs of up to {longest} bytes: " + ", ".join(f"{name} {many}" for name, many in kinds.items()))
-    print("outcomes: " + ", ".join(f"{said} {outcomes[said]}" for said in sorted(outcomes, key=str)))
-    print(f"crashes: {wrong['crashes']}, hangs: {wrong['hangs']}")
+    print("outcomes: " + ", ".join(f"{said} {outcomes[said]}" for said in sorted(outcomes, key=lambda said: (len(said), said))))
+    print(f"wrong answers: {wrong['wrong answers']}, crashes: {wrong['crashes']}, hangs: {wrong['hangs']}")
     sys.exit(bool(wrong))
 
 

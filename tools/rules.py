@@ -24,6 +24,7 @@ class Refused(Exception):
         return 1 if self.number in (9, 10, 16, 17) else 2 if self.number in range(11, 16) else 3
 
     def line(self):
+        """The values as `decide` prints them."""
         return f"{self.number} {self.layer()} {self.place}"
 
 
@@ -335,6 +336,42 @@ class Tray:
         return sum(self.mets) * self.columns
 
 
+# ---- Answers ----
+
+def earliest(automaton, accepting):
+    """The earliest of the shortest words that end so, or None. States are met in the order of their earliest words."""
+    words = {0: ()}
+    for state in (met := [0]):
+        if automaton.accepts[state] == accepting:
+            return words[state]
+        for column, after in enumerate(automaton.rows[state]):
+            if after not in words:
+                words[after] = *words[state], column
+                met.append(after)
+    return None
+
+
+def shown(word):
+    return "-" if word is None else ",".join(map(str, word)) or "."
+
+
+class Answer(typing.NamedTuple):
+    verdict: str
+    states: int
+    witness: tuple | None
+    counter: tuple | None
+
+    def line(self):
+        """The values as `decide` prints them."""
+        return f"{self.verdict} {self.states} {shown(self.witness)} {shown(self.counter)}"
+
+
+def answer(automaton):
+    witness, counter = earliest(automaton, True), earliest(automaton, False)
+    verdict = "none" if witness is None else "all" if counter is None else "some"
+    return Answer(verdict, len(smallest(automaton).rows), witness, counter)
+
+
 # ---- Questions ----
 
 def asked(question):
@@ -361,3 +398,11 @@ def build(question):
     reader = Reader(text, sets)
     formula = reader.whole()
     return Tray(formula, reader.letters, budget, depth)
+
+
+def owed(question):
+    """The two lines that `decide` is to print."""
+    try:
+        return f"verdict states witness counter\n{answer(build(question).table).line()}\n"
+    except Refused as fault:
+        return f"refusal layer place\n{fault.line()}\n"
