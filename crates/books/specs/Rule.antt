@@ -3,8 +3,8 @@ use Rattle.std.specs.Prelude.{◌≡◌, ℕ, ◌^◌, ◌<◌, ◌≤◌, true,
 use Rattle.words.specs.Automata.{Automaton, accepted}
 use Rattle.words.specs.Words.{Columns, sets}
 
--- The automaton recognizes the relation: start and steps stay among its states, and the run over a word ends accepting
--- exactly when the relation holds of the sets that the word codes.
+-- The automaton recognizes the relation: start and steps stay among its states, and it accepts the words, and only those,
+-- that code sets of which the relation holds.
 pub record Recognizes (a : Automaton) (holds : List ℕ → Type 0) : Type 0 where
   pub places : (1 ≤ a.places) × (a.places ≤ 4)
   pub states : (1 ≤ a.states) × (a.states ≤ 512)

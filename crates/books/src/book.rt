@@ -12,8 +12,8 @@ pub type State = u16;
 
 /// At most 64 predicates on finite sets, numbered from 0. Each has 1 to 4 places and an automaton of 1 to 512
 /// states that reads columns over its places. Questions change nothing, and each answer is the one that the
-/// book's ghost automaton has, so that it is the same each time. Outside of its ranges a book answers 0 places,
-/// 0 states, state 0 and not accepting.
+/// book's ghost automaton has, so that it is the same each time. Of a predicate, state or column that it lacks it
+/// says 0 places, 0 states, state 0, and no.
 pub trait Book {
     ghost size: { Self → ℕ };
 

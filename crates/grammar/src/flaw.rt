@@ -12,13 +12,13 @@ pub enum Flaw {
     NoRoom = 4,
     /// The text is longer than 1,024 bytes.
     TooLong = 9,
-    /// A byte is no letter, mark, space or line feed, or letters are neither one letter nor a name.
+    /// Something that is no token: one byte that cannot stand in a claim, or letters that form no name or variable.
     NoToken = 10,
     /// The text ends before the formula is complete.
     Unfinished = 11,
     /// A formula stands inside more than 32 others.
     TooDeep = 12,
-    /// Another kind of token is due, or the formula is complete.
+    /// A token that cannot stand here: the formula is complete, or wants one of another kind.
     NotDue = 13,
     /// The book has no predicate of this name.
     UnknownName = 14,

@@ -5,8 +5,7 @@ ghost use Rattle.words.specs.Automata.{Moves};
 /// An automaton over states of some type: where it starts, where a column leads, and which states accept.
 ///
 /// Its law is in the contracts. Each answer is that of the ghost automaton `moves`, which is a function of the
-/// state; and `same` tells whether two states are equal. So sameness is an equality, and same states step to same
-/// states and accept alike.
+/// state; and `same` tells whether two states are equal. So no two states that are the same can be told apart.
 pub trait Kind {
     type State: Copy + Clone + Drop;
 

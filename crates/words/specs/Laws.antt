@@ -12,7 +12,7 @@ SameMembers = (s t : ℕ) → ((p : ℕ) → Member p s ↔ Member p t) → s �
 abbrev pub ValueOfSet : Type 0
 ValueOfSet = (s : ℕ) → value s ≡ s
 
--- position p is in set i exactly when the word has a column p whose bit i is 1 (behind the word's end stand zeros)
+-- the members of set i are the positions whose columns have bit i on (behind the word's end stand zeros)
 abbrev pub CodedMembers : Type 0
 CodedMembers = (i p : ℕ) (w : List ℕ) → Member p (coded i w) ↔ (bit i (slice_index w p) ≡ 1)
 

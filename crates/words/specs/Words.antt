@@ -1,5 +1,5 @@
 -- Words of columns, and the sets that a word codes.
--- A column over n sets is a number below 2^n, and its bit i belongs to set i. A word is a finite row of columns.
+-- A column over n sets is a number below 2^n whose bit i is that of set i. A word is a list of columns.
 use Rattle.std.specs.Prelude.{ℕ, ◌+◌, ◌*◌, ◌^◌, ◌<◌, List, [], ◌∷◌, map}
 use Rattle.std.specs.List.{range_with_len}
 use Rattle.words.specs.Sets.{bit}
