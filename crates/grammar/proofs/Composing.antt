@@ -84,7 +84,7 @@ variable_part k for-some = refl
 variable_part k for-every = refl
 
 -- at most one step, and at most five
-between_few : (at : ℕ) (c : Connective) → length (between at c) + length (joined_by at c) ≤ 2
+pub between_few : (at : ℕ) (c : Connective) → length (between at c) + length (joined_by at c) ≤ 2
 between_few at both-parts = omega arith
 between_few at either-part = omega arith
 between_few at implied-part = omega arith
@@ -131,7 +131,7 @@ module _ (s : Source) (left depth at place : ℕ) (low : 1 ≤ left) (most : lef
     steps = g.steps;
     free = g.notes;
     bound = g.bound;
-    room = (within, more, used, g.long, room);
+    room = (within, more, used, g.kept, room, g.later);
   }
 
   module _ (here : left_of s at ≡ mark_item place Not ∷ left_of s (at + 1)) where

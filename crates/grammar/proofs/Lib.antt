@@ -1,4 +1,5 @@
 pub mod Noting
+pub mod Keeping
 pub mod Spelling
 pub mod Several
 pub mod Placing

@@ -7,6 +7,7 @@ use Rattle.tokens.specs.declared.item.Sense.TheVariants.{Mark, Predicate, Variab
 use Rattle.tokens.specs.declared.mark.Mark.TheVariants.{Not, Both, Either, Implies, Some, Every}
 use Rattle.tokens.specs.declared.mark.Mark.{Mark as MarkKind}
 use Rattle.grammar.specs.declared.step.Spot.{Spot}
+use Rattle.grammar.specs.Limits.{most_around}
 
 -- A claim. Each part has first the place in the text of its mark or name. A variable is a letter with its place and its set.
 pub data Claim : Type 0 where
@@ -39,15 +40,15 @@ spelled (implies at f g) rest = mark_item at Implies ∷ spelled f (spelled g re
 spelled (some at x f) rest = mark_item at Some ∷ (variable_item x ∷ spelled f rest)
 spelled (every at x f) rest = mark_item at Every ∷ (variable_item x ∷ spelled f rest)
 
--- a claim that stands inside k others, where no part stands inside more than 32 and every variable has one of n sets
+-- a claim that stands inside k others, where no part stands inside more than there may be and every variable has one of n sets
 abbrev pub Fits : ℕ → ℕ → Claim → Type 0
-Fits n k (atom at p spots) = (k ≤ 32) × All (λ x. x.set < n) spots
-Fits n k (denial at f) = (k ≤ 32) × Fits n (k + 1) f
-Fits n k (and at f g) = (k ≤ 32) × Fits n (k + 1) f × Fits n (k + 1) g
-Fits n k (or at f g) = (k ≤ 32) × Fits n (k + 1) f × Fits n (k + 1) g
-Fits n k (implies at f g) = (k ≤ 32) × Fits n (k + 1) f × Fits n (k + 1) g
-Fits n k (some at x f) = (k ≤ 32) × (x.set < n) × Fits n (k + 1) f
-Fits n k (every at x f) = (k ≤ 32) × (x.set < n) × Fits n (k + 1) f
+Fits n k (atom at p spots) = (k ≤ most_around) × All (λ x. x.set < n) spots
+Fits n k (denial at f) = (k ≤ most_around) × Fits n (k + 1) f
+Fits n k (and at f g) = (k ≤ most_around) × Fits n (k + 1) f × Fits n (k + 1) g
+Fits n k (or at f g) = (k ≤ most_around) × Fits n (k + 1) f × Fits n (k + 1) g
+Fits n k (implies at f g) = (k ≤ most_around) × Fits n (k + 1) f × Fits n (k + 1) g
+Fits n k (some at x f) = (k ≤ most_around) × (x.set < n) × Fits n (k + 1) f
+Fits n k (every at x f) = (k ≤ most_around) × (x.set < n) × Fits n (k + 1) f
 
 -- a lower-case letter is a position, and an upper-case one a set
 abbrev pub is_position : Spot → Bool

@@ -7,6 +7,7 @@ use Rattle.tokens.specs.declared.mark.Mark.{Mark as MarkKind}
 use Rattle.tokens.specs.declared.mark.Mark.TheVariants.{Not, Both, Either, Implies, Some as some-mark, Every}
 use Rattle.grammar.specs.declared.flaw.Flaw.{Flaw}
 use Rattle.grammar.specs.declared.flaw.Flaw.TheVariants.{NoToken, Unfinished, TooDeep, NotDue, UnknownName, TooManyVariables}
+use Rattle.grammar.specs.Limits.{most_around}
 
 -- what is due: a formula that stands inside so many others, or a variable
 pub data Due : Type 0 where
@@ -18,9 +19,9 @@ pub data Due : Type 0 where
 abbrev pub as_formula : ℕ → Sense → Option Flaw
 as_formula k Wrong = Some NoToken
 as_formula k (Variable letter set) = Some NotDue
-as_formula k (Mark m) = cond (nat_lt 32 k) (Some TooDeep) None
-as_formula k (Predicate p places) = cond (nat_lt 32 k) (Some TooDeep) None
-as_formula k Unknown = cond (nat_lt 32 k) (Some TooDeep) (Some UnknownName)
+as_formula k (Mark m) = cond (nat_lt most_around k) (Some TooDeep) None
+as_formula k (Predicate p places) = cond (nat_lt most_around k) (Some TooDeep) None
+as_formula k Unknown = cond (nat_lt most_around k) (Some TooDeep) (Some UnknownName)
 
 -- where a variable is due, and there are n sets
 abbrev pub as_variable : ℕ → Sense → Option Flaw

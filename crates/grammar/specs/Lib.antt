@@ -1,3 +1,4 @@
+pub mod Limits
 pub mod Flaws
 pub mod Claims
 pub mod Faults

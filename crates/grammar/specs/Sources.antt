@@ -16,6 +16,7 @@ use Rattle.grammar.specs.declared.source.Opening.{Opening}
 use Rattle.grammar.specs.declared.source.Opening.TheVariants.{Denial, Connective as connective, Quantifier as quantifier, Atom}
 use Rattle.grammar.specs.declared.source.Opened.{Opened}
 use Rattle.grammar.specs.declared.source.Source.{Source}
+use Rattle.grammar.specs.Limits.{most_open}
 use Rattle.grammar.specs.Claims.{variable_item}
 use Rattle.grammar.specs.Faults.{Due, formula, variable, fault}
 
@@ -62,7 +63,7 @@ opened_item o = record { place = o.place; sense = sense_of_opening o.opening }
 
 abbrev pub Opens : Source → ℕ → ℕ → Result Opened Flawed → Type 0
 Opens s at left (Ok o) = (at < length s.items.now) × (1 ≤ left) × (left_of s at ≡ opened_item o ∷ left_of s (at + 1))
-Opens s at left (Err e) = Faulty s at (formula (33 - left) ∷ []) e
+Opens s at left (Err e) = Faulty s at (formula (most_open - left) ∷ []) e
 
 abbrev pub Ends : Source → ℕ → Result (Unit {0}) Flawed → Type 0
 Ends s at (Ok _) = left_of s at ≡ []

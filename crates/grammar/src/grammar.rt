@@ -4,6 +4,7 @@ ghost use Rattle.grammar.specs.Reading.{Reads, Room};
 ghost use Rattle.grammar.specs.Sources.{FewPlaces};
 
 use crate::flaw::Flawed;
+use crate::limits::{MOST_OPEN, MOST_SETS};
 use crate::plan::Plan;
 use crate::source::{Opened, Opening, Source};
 use crate::step::Build;
@@ -19,8 +20,8 @@ pub(crate) fn read_formula(
     depth: usize,
 ) -> Result<usize, Flawed>
     requires few { FewPlaces source.now.items.now }
-    requires sets { source.now.sets ≤ 8 }
-    requires nesting { depth + left ≤ 33 }
+    requires sets { source.now.sets ≤ MOST_SETS }
+    requires nesting { depth + left ≤ MOST_OPEN }
     requires room { Room source.now plan.old at }
     ensures reads { Reads source.now left depth at plan.old plan.new result }
     ensures owner { plan.new.steps.ghost_name ≡ plan.old.steps.ghost_name }

@@ -4,6 +4,7 @@
 mod flaw;
 mod grammar;
 mod laws;
+mod limits;
 mod plan;
 mod planning;
 mod source;

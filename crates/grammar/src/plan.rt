@@ -4,6 +4,7 @@ ghost use Rattle.grammar.specs.Steps.{call_of, hiding, place as place_call};
 ghost use Rattle.grammar.specs.Claims.{among};
 ghost use Rattle.grammar.specs.Written.{Notes, Adds, Writes, between, joined_by, quantified};
 
+use crate::limits::{MOST_OPEN, MOST_SETS};
 use crate::source::{Connective, Quantifier};
 use crate::step::{Build, Spot, Step};
 use books::Predicate;
@@ -14,8 +15,8 @@ use books::Predicate;
 pub(crate) struct Plan<'s> {
     pub(crate) steps: &'s mut [Step],
     pub(crate) used: usize,
-    pub(crate) bound: [u8; 33],
-    pub(crate) free: [Option<u16>; 8],
+    pub(crate) bound: [u8; MOST_OPEN],
+    pub(crate) free: [Option<u16>; MOST_SETS],
 }
 
 impl Plan<'_> {
@@ -41,7 +42,7 @@ impl Plan<'_> {
 
     // The steps that hide a variable's set.
     fn hide(&mut self, place: u16, variable: Spot)
-        requires small { variable.set < 8 }
+        requires small { variable.set < MOST_SETS }
         requires room { self.old.used + 3 ≤ length self.old.steps.now }
         ensures writes { Writes self.old self.new (hiding place variable) }
         ensures owner { self.new.steps.ghost_name ≡ self.old.steps.ghost_name }
@@ -55,7 +56,7 @@ impl Plan<'_> {
 
     // The steps of a quantifier, behind those of its part.
     pub(crate) fn quantify(&mut self, place: u16, quantifier: Quantifier, variable: Spot)
-        requires small { variable.set < 8 }
+        requires small { variable.set < MOST_SETS }
         requires room { self.old.used + 5 ≤ length self.old.steps.now }
         ensures writes { Writes self.old self.new (quantified place quantifier variable) }
         ensures owner { self.new.steps.ghost_name ≡ self.old.steps.ghost_name }
@@ -96,7 +97,7 @@ impl Plan<'_> {
 
     // Binds a letter inside of those that are bound.
     pub(crate) fn bind(&mut self, depth: usize, letter: u8)
-        requires { depth < 33 }
+        requires { depth < MOST_OPEN }
         ensures deep { depth < length self.old.bound }
         ensures bound { take (depth + 1) self.new.bound ≡ take depth self.old.bound ++ letter ∷ [] }
         ensures same { (self.new.used ≡ self.old.used) × (self.new.steps ≡ self.old.steps) × (self.new.free ≡ self.old.free) }
@@ -106,8 +107,8 @@ impl Plan<'_> {
 
     // Notes the place of a variable, where so many letters are bound, if it is the first of a free position.
     fn note(&mut self, spot: Spot, depth: usize)
-        requires small { spot.set < 8 }
-        requires deep { depth ≤ 33 }
+        requires small { spot.set < MOST_SETS }
+        requires deep { depth ≤ MOST_OPEN }
         ensures notes { (spots : List Spot) → Notes self.old.free spots → Notes self.new.free (spots ++ filter (λ x. not (among x.letter (take depth self.old.bound))) (spot ∷ [])) }
         ensures same { (self.new.used ≡ self.old.used) × (self.new.steps ≡ self.old.steps) × (self.new.bound ≡ self.old.bound) }
     {
@@ -121,8 +122,8 @@ impl Plan<'_> {
     // The step of a predicate on its variables.
     pub(crate) fn place(&mut self, place: u16, predicate: Predicate, spots: &[Spot], depth: usize)
         requires few { length spots.now ≤ 4 }
-        requires small { All (λ x. x.set < 8) spots.now }
-        requires deep { depth ≤ 33 }
+        requires small { All (λ x. x.set < MOST_SETS) spots.now }
+        requires deep { depth ≤ MOST_OPEN }
         requires room { self.old.used < length self.old.steps.now }
         ensures writes { Adds self.old self.new ((place, place_call predicate (map (λ x. x.set) spots.now)) ∷ []) (filter (λ x. not (among x.letter (take depth self.old.bound))) spots.now) }
         ensures owner { self.new.steps.ghost_name ≡ self.old.steps.ghost_name }

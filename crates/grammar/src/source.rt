@@ -4,6 +4,7 @@ ghost use Rattle.tokens.specs.declared.item.Sense.TheVariants.{Mark as MarkSense
 ghost use Rattle.grammar.specs.Sources.{sense_of_opening, FindsItem, FindsVariable, FindsVariables, Opens, Ends};
 
 use crate::flaw::{Flaw, Flawed};
+use crate::limits::MOST_OPEN;
 use crate::step::Spot;
 use books::Predicate;
 use tokens::{Item, Mark, Sense};
@@ -125,7 +126,7 @@ impl Source<'_> {
 
     // The beginning of the formula that is due here, where `left` formulas more may be open at once.
     pub(crate) fn opening(&self, at: usize, left: u8) -> Result<Opened, Flawed>
-        requires { left ≤ 33 }
+        requires { left ≤ MOST_OPEN }
         ensures { Opens self.now at left result }
     {
         let item = self.item(at)?;

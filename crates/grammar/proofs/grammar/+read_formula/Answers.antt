@@ -1,8 +1,10 @@
-use Rattle.std.proofs.Common.{◌≡◌, ◌+◌, ◌<◌, ◌∷◌, ◌++◌, length, take, map, All, ap, ◌∙◌, sym, subst, arith}
+use Rattle.std.proofs.Common.{◌≡◌, ℕ, ◌+◌, ◌*◌, ◌<◌, ◌≤◌, ◌∷◌, ◌++◌, length, take, map, All, sym, subst, arith}
 use Rattle.std.proofs.lemmas.Result.{err_from_is_err_and}
-use Rattle.grammar.proofs.Composing.{opened_as, connected, bound_by, denial_fault, denial_read, left_fault, right_fault, connected_read, part_fault, quantified_read, atom_read, variable_here}
+use Rattle.grammar.proofs.Composing.{opened_as, connected, bound_by, denial_fault, denial_read, left_fault, right_fault, connected_read, part_fault, quantified_read, atom_read, variable_here, between_few}
+use Rattle.grammar.proofs.Keeping.{same_later, same_then}
 use Rattle.grammar.specs.Claims.{denial, atom, name_item, variable_item}
 use Rattle.grammar.specs.Sources.{left_of}
+use Rattle.grammar.specs.Written.{SameBehind}
 use Rattle.grammar.proofs.grammar.+read_formula.Goals as goal
 
 pub returns-in_err-next-in-Denial-clause-reads : goal.returns-in_err-next-in-Denial-clause-reads
@@ -59,7 +61,17 @@ returns-in_err-next-in-Connective-clause-reads t c =
           (opened_as s at o.place o.opening _ c.in-Connective.is begun.2) c.args.plan.now c.read_formula-in-Connective.new.plan
           c.in_ok-middle-in-Connective.middle
           first.0 c.in_err-next-in-Connective.field-0.0 first.1 fails.0,
-      fails.1 ∙ c.begin_right.ensures.writes.0.2 ∙ first.1.room.3,
+      (let all : ℕ = 3 * length s.items.now in
+          let p = c.args.plan.now in
+          let q = c.read_formula-in-Connective.new.plan in
+          let r = c.begin_right.new.self in
+          let t = c.read_formula-in-Connective-2.new.plan in
+          let behind = c.begin_right.ensures.writes.0 in
+          let few = between_few o.place c.in-Connective.connective in
+          let q-few : q.used + 3 ≤ all = omega (arith, c.requires.room.1, first.1.room.0, first.1.room.2) in
+          let r-few : r.used ≤ all = omega (arith, q-few, behind.1, few) in
+          same_then all p.steps.now q.steps.now t.steps.now (same_later q.used all (omega (arith, q-few)) p.steps.now q.steps.now first.1.room.3)
+          (same_then all q.steps.now r.steps.now t.steps.now (same_later r.used all r-few q.steps.now r.steps.now behind.2) fails.1)),
     )
 
 pub returns-in_ok-next-in-Connective-clause-reads : goal.returns-in_ok-next-in-Connective-clause-reads
@@ -90,7 +102,7 @@ returns-in_err-next-in-Quantifier-clause-reads t c =
     rw (given.1, given.2) (
       part_fault s c.args.left c.args.depth at o.place begun.1 (omega (arith, c.requires.nesting)) c.in-Quantifier.quantifier x
           (opened_as s at o.place o.opening _ c.in-Quantifier.is begun.2) (variable_here s at x found.1) found.2 c.in_err-next-in-Quantifier.field-0.0 fails.0,
-      fails.1 ∙ ap (λ m. length m.now) c.bind.ensures.same.1,
+      subst (λ m. SameBehind (3 * length s.items.now) m.now c.read_formula-in-Quantifier.new.plan.steps.now) c.bind.ensures.same.1 fails.1,
     )
 
 pub returns-in_ok-next-in-Quantifier-clause-reads : goal.returns-in_ok-next-in-Quantifier-clause-reads
