@@ -32,8 +32,8 @@ module _ (s : Source) (p q : Plan) (next : ℕ) (f : Claim) (a : ReadsClaim s mo
         → fault s.sets s.end (formula 0 ∷ []) s.items.now ≡ Some (e.flaw, e.place)
     more_fault e h = ap (fault s.sets s.end (formula 0 ∷ [])) a.spells ∙ claim_fault s.sets s.end 0 f a.fits [] (left_of s next) ∙ h
 
-    pub begin_positions : Notes p.free [] → left_of s next ≡ [] → Positioned s q 0 q f
-    begin_positions none ends = record {
+    pub begin_positions : (k : ℕ) → k ≡ 0 → Notes p.free [] → left_of s next ≡ [] → Positioned s q k q f
+    begin_positions k first none ends = subst (λ j. Positioned s q j q f) (sym first) record {
       spells = a.spells ∙ ap (spelled f) ends;
       fits = a.fits;
       steps = a.steps ∙ ap (λ k. map step_of (take k p.steps.now) ++ steps_of f) used ∙ sym (append-nil (steps_of f));

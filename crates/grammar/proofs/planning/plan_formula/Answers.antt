@@ -20,10 +20,12 @@ returns-in_err-finish-clause-plans c =
 
 pub loop-set-init : goal.loop-set-init
 loop-set-init c =
-    let read = c.in_ok-next.ensures.reads in
-    let begun = begin_positions c.args.source.now c.args.plan.now c.read_formula.new.plan c.in_ok-next.next read.0 read.1 c.requires.empty c.requires.none
-    c.in_ok-finish.ensures in
-    (refl, read.0, begun)
+    let read = c.in_ok-next.ensures.reads in (
+      refl,
+      read.0,
+      begin_positions c.args.source.now c.args.plan.now c.read_formula.new.plan c.in_ok-next.next read.0 read.1 c.requires.empty _ (omega arith)
+          c.requires.none c.in_ok-finish.ensures,
+    )
 
 pub loop-set-preserved : goal.loop-set-preserved
 loop-set-preserved c =

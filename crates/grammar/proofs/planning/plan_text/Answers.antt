@@ -29,6 +29,5 @@ returns g c =
     let four = at_most_four (g.B.Book.size book) (g.B.Book.automaton book) (g.B.Book.holds book) (g.B.Book.rule book) in
     let few = items_length (g.B.NamedBook.numbered book) (g.B.Book.automaton book) four c.args.text.now in
     plans (g.B.NamedBook.numbered book) (g.B.Book.automaton book) c.args.sets c.args.text.now (length c.args.steps.now) c.min.result c.min.ensures
-    (take c.in-Some.count c.list_items.new.items) c.in-Some.ensures.3 c.in-Some.ensures.0 c.if-steps-text.false (omega (arith, ap length c.in-Some.ensures.3, few))
-    c.args.steps.now c.plan_items.new.steps
-    c.plan_items.result refl c.plan_items.ensures
+    (take c.in-Some.count c.list_items.new.items) c.in-Some.ensures.3 c.in-Some.ensures.0 (omega (arith, c.if-steps-text.false))
+    (omega (arith, ap length c.in-Some.ensures.3, few)) c.args.steps.now c.plan_items.new.steps c.plan_items.result refl c.plan_items.ensures

@@ -1,5 +1,6 @@
-use Rattle.std.proofs.Common.{ℕ, List, take, slice_set, Some, sym, arith}
+use Rattle.std.proofs.Common.{◌≡◌, ℕ, true, List, take, slice_set, Some, sym, arith}
 use Rattle.grammar.specs.declared.step.Spot.{Spot}
+use Rattle.grammar.specs.Claims.{is_position}
 use Rattle.grammar.specs.Written.{Notes}
 use Rattle.grammar.proofs.Noting.{notes_bound, notes_set_letter, notes_again, notes_first, among_either, among_free, among_bound}
 use Rattle.grammar.proofs.plan.Plan.note.Goals as goal
@@ -10,9 +11,10 @@ returns-then-is_none-clause-notes c =
     let x : Spot = c.args.spot in
     let letters : List ℕ = take c.args.depth c.args.self.now.bound in
     let noted = slice_set c.args.self.now.free c.from-set.result (Some x.place) in
+    let position : is_position x ≡ true = sym c.if-is_ascii_lowercase.ensures.value in
     λ spots notes. among_free letters x (Notes noted) spots (sym c.if-free.ensures.value)
-    (notes_first c.args.self.now.free spots notes x c.from-set.result c.from-set.ensures (sym c.if-is_ascii_lowercase.ensures.value)
-    (omega (arith, c.from-set.ensures, c.requires.small)) c.if-is_none.ensures)
+    (notes_first c.args.self.now.free spots notes x c.from-set.result c.from-set.ensures position (omega (arith, c.from-set.ensures, c.requires.small))
+    c.if-is_none.ensures)
 
 pub returns-else-free-clause-notes : goal.returns-else-free-clause-notes
 returns-else-free-clause-notes c =
