@@ -1,4 +1,4 @@
-use Rattle.std.proofs.Common.{◌≡◌, None, length, take, map, sym, subst}
+use Rattle.std.proofs.Common.{◌≡◌, None, length, take, map, sym, subst, arith}
 use Rattle.std.proofs.lemmas.List.{length-take-le}
 use Rattle.grammar.specs.Planning.{most, ReadsAs, text_fault}
 use Rattle.grammar.specs.Steps.{step_of, all_steps}
@@ -6,10 +6,10 @@ use Rattle.reading.proofs.Whole.{read_text}
 use Rattle.reading.proofs.reading.read.Goals as goal
 
 pub slice_bounds-build-end : goal.slice_bounds-build-end
-slice_bounds-build-end g c = c.in_ok-count.ensures.2
+slice_bounds-build-end g c = omega (arith, c.in_ok-count.ensures.2)
 
 pub slice_bounds-build-end-2 : goal.slice_bounds-build-end-2
-slice_bounds-build-end-2 g c = sym (length-take-le c.in_ok-count.count c.plan_text.new.steps c.in_ok-count.ensures.2)
+slice_bounds-build-end-2 g c = sym (length-take-le _ c.plan_text.new.steps (omega (arith, c.in_ok-count.ensures.2)))
 
 pub returns-clause-reads : goal.returns-clause-reads
 returns-clause-reads g c =
