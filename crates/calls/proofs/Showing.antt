@@ -11,6 +11,7 @@ use Rattle.tray.specs.declared.control.Control.{Control}
 use Rattle.tray.specs.declared.refusal.Refusal.{Refusal}
 use Rattle.calls.specs.declared.call.Call.TheVariants.{Save, Judge}
 use Rattle.calls.specs.Buffers.{Buffers}
+use Rattle.calls.specs.Lent.{Lent}
 use Rattle.calls.specs.Making.{TopTable}
 use Rattle.calls.specs.Owed.{FormulaText, too_long}
 use Rattle.calls.specs.Promise.{StandsFor}
@@ -34,10 +35,10 @@ buffers_same b b' ew ec et =
 abbrev wide_or_few : ℕ → ℕ → List (ℕ × Type 0)
 wide_or_few n count = (20, 4 < n) ∷ fewer_than 1 count ∷ []
 
-module _ (records size : ℕ) (a : ℕ → Automaton) (holds : ℕ → List ℕ → Type 0) (buffers buffers' : Buffers) (c : Control) (tables : List ℕ) where
+module _ (lent : Lent) (size : ℕ) (a : ℕ → Automaton) (holds : ℕ → List ℕ → Type 0) (buffers buffers' : Buffers) (c : Control) (tables : List ℕ) where
   -- ---- save
 
-  module _ (f : Formula) (rest : List Formula) (stands : StandsFor (going c records size a) holds c tables (f ∷ rest)) (table : TopTable c tables) where
+  module _ (f : Formula) (rest : List Formula) (stands : StandsFor holds c tables (f ∷ rest)) (table : TopTable c tables) where
     text_on_top : FormulaText c.sets holds f (top_text c tables)
     text_on_top =
         let top : ℕ = c.count - 1 in
@@ -60,25 +61,25 @@ module _ (records size : ℕ) (a : ℕ → Automaton) (holds : ℕ → List ℕ 
         subst (λ s. length buffers.text < length s) (one_text c.sets holds f x.2 (top_text c tables) text text_on_top) x.5
 
   module _ (ew : buffers'.witness ≡ buffers.witness) (ec : buffers'.counterexample ≡ buffers.counterexample) where
-    refused_save : (pile : List Formula) → StandsFor (going c records size a) holds c tables pile → (why : Refusal)
-        → FirstFailed (wide_or_few c.sets (length pile) ++ (too_long (going c records size a) holds pile buffers.text ∷ [])) (number_of why)
+    refused_save : (pile : List Formula) → StandsFor holds c tables pile → (why : Refusal)
+        → FirstFailed (wide_or_few c.sets (length pile) ++ (too_long (going c lent size a) holds pile buffers.text ∷ [])) (number_of why)
         → buffers'.text ≡ buffers.text
-        → Steps (going c records size a) holds pile buffers Save (saved (Err why)) c tables buffers'
+        → Steps (going c lent size a) holds pile buffers Save (saved (Err why)) c c tables buffers'
     refused_save pile stands why failed et =
-        subst (λ b. Steps (going c records size a) holds pile buffers Save (saved (Err why)) c tables b) (sym (buffers_same buffers buffers' ew ec et))
-        (refused_step (going c records size a) holds pile buffers Save c tables c tables stands why failed refl refl)
+        subst (λ b. Steps (going c lent size a) holds pile buffers Save (saved (Err why)) c c tables b) (sym (buffers_same buffers buffers' ew ec et))
+        (refused_step (going c lent size a) holds pile buffers Save c tables c tables stands why failed refl refl)
 
-    pub save_step : (pile : List Formula) → StandsFor (going c records size a) holds c tables pile → TopTable c tables → (r : Result ℕ Refusal)
-        → SavesTop c tables buffers.text buffers'.text r → Steps (going c records size a) holds pile buffers Save (saved r) c tables buffers'
+    pub save_step : (pile : List Formula) → StandsFor holds c tables pile → TopTable c tables → (r : Result ℕ Refusal)
+        → SavesTop c tables buffers.text buffers'.text r → Steps (going c lent size a) holds pile buffers Save (saved r) c c tables buffers'
     save_step [] stands table (Err why) h =
         let few : AllPass (wide_or_few c.sets c.count) → ⊥ = λ pass. pass.1.0 (omega (arith, stands.count)) in
         refused_save [] stands why
-        (subst (λ k. FirstFailed (wide_or_few c.sets k ++ (too_long (going c records size a) holds [] buffers.text ∷ [])) (number_of why)) stands.count
+        (subst (λ k. FirstFailed (wide_or_few c.sets k ++ (too_long (going c lent size a) holds [] buffers.text ∷ [])) (number_of why)) stands.count
         (last_fails (wide_or_few c.sets c.count) 8 (length buffers.text < length (top_text c tables)) _ (number_of why) (λ p. absurd (few p)) (λ p. absurd (few p)) h.0))
         h.1
     save_step (f ∷ rest) stands table (Err why) h =
         refused_save (f ∷ rest) stands why
-        (subst (λ k. FirstFailed (wide_or_few c.sets k ++ (too_long (going c records size a) holds (f ∷ rest) buffers.text ∷ [])) (number_of why)) stands.count
+        (subst (λ k. FirstFailed (wide_or_few c.sets k ++ (too_long (going c lent size a) holds (f ∷ rest) buffers.text ∷ [])) (number_of why)) stands.count
         (last_fails (wide_or_few c.sets c.count) 8 (length buffers.text < length (top_text c tables)) _ (number_of why)
         (λ p. shorter_to f rest stands table) (λ p. shorter_from f rest stands table) h.0))
         h.1
@@ -86,7 +87,7 @@ module _ (records size : ℕ) (a : ℕ → Automaton) (holds : ℕ → List ℕ 
     save_step (f ∷ rest) stands table (Ok bytes) h = (
       f ∷ rest,
       (
-        subst (λ k. AllPass (wide_or_few c.sets k ++ (too_long (going c records size a) holds (f ∷ rest) buffers.text ∷ []))) stands.count
+        subst (λ k. AllPass (wide_or_few c.sets k ++ (too_long (going c lent size a) holds (f ∷ rest) buffers.text ∷ []))) stands.count
             (last_passes (wide_or_few c.sets c.count) 8 (length buffers.text < length (top_text c tables)) _ (λ p. shorter_from f rest stands table) h.0),
         refl,
         refl,
@@ -99,18 +100,19 @@ module _ (records size : ℕ) (a : ℕ → Automaton) (holds : ℕ → List ℕ 
         text_on_top f rest stands table,
         h.1,
       ),
+      refl,
       stands,
     )
 
   -- ---- judge
 
   module _ (et : buffers'.text ≡ buffers.text) where
-    pub judge_step : (pile : List Formula) → StandsFor (going c records size a) holds c tables pile → (r : Result Judgement Refusal)
+    pub judge_step : (pile : List Formula) → StandsFor holds c tables pile → (r : Result Judgement Refusal)
         → JudgesTop c tables buffers.witness buffers.counterexample buffers'.witness buffers'.counterexample r
-        → Steps (going c records size a) holds pile buffers Judge (judged r) c tables buffers'
+        → Steps (going c lent size a) holds pile buffers Judge (judged r) c c tables buffers'
     judge_step pile stands (Err why) h =
-        subst (λ b. Steps (going c records size a) holds pile buffers Judge (judged (Err why)) c tables b) (sym (buffers_same buffers buffers' h.1 h.2 et))
-        (refused_step (going c records size a) holds pile buffers Judge c tables c tables stands why
+        subst (λ b. Steps (going c lent size a) holds pile buffers Judge (judged (Err why)) c c tables b) (sym (buffers_same buffers buffers' h.1 h.2 et))
+        (refused_step (going c lent size a) holds pile buffers Judge c tables c tables stands why
         (subst (λ k. FirstFailed (judge_checks c.budget k (length buffers.witness) (length buffers.counterexample)) (number_of why)) stands.count h.0) refl refl)
     judge_step [] stands (Ok j) h = absurd (h.0.1.0 (omega (arith, stands.count)))
     judge_step (f ∷ rest) stands (Ok j) h =
@@ -128,5 +130,6 @@ module _ (records size : ℕ) (a : ℕ → Automaton) (holds : ℕ → List ℕ 
             judged_formula n holds f (says c tables top) (top_names n holds (says c tables) f rest stands.tells)
                 (top_tells n holds (says c tables) f rest stands.tells top (omega (arith, stands.count))) buffers buffers' j h.1,
           ),
+          refl,
           stands,
         )

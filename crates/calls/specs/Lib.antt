@@ -1,6 +1,7 @@
 pub mod Names
 pub mod Replies
 pub mod Buffers
+pub mod Lent
 pub mod Making
 pub mod Pile
 pub mod Owed

@@ -1,5 +1,5 @@
 -- What reply a pile owes a call, and what the call leaves.
-use Rattle.std.specs.Prelude.{◌≡◌, ℕ, ◌*◌, ◌<◌, ◌↔◌, false, List, [], ◌∷◌, ◌++◌, length, is_some}
+use Rattle.std.specs.Prelude.{◌≡◌, ℕ, ◌<◌, ◌≤◌, ◌↔◌, false, List, [], ◌∷◌, ◌++◌, length, is_some}
 use Rattle.words.specs.Automata.{Automaton}
 use Rattle.words.specs.Formulas.{Formula, Truth, Satisfies}
 use Rattle.words.specs.Residuals.{Count, MoreThan}
@@ -17,15 +17,16 @@ use Rattle.calls.specs.declared.call.Call.TheVariants.{Place, Single, Negate, Bo
 use Rattle.calls.specs.declared.call.Reply.{Reply}
 use Rattle.calls.specs.declared.call.Reply.TheVariants.{Refused, Built, Dropped, Saved, Judged}
 use Rattle.calls.specs.Buffers.{Buffers}
+use Rattle.calls.specs.Lent.{Lent}
 use Rattle.calls.specs.Pile.{Becomes, SameMet}
 
--- What a run goes by: how many sets there are, the budget of states and the depth of tables; how many records of each kind
--- are lent, with eight links for each; and how many predicates the book has, and the automaton of each.
+-- What a call goes by: how many sets there are, the budget of states and the depth of tables; how much memory is lent; and how
+-- many predicates the book has, and the automaton of each.
 pub record Terms : Type 0 where
   pub sets : ℕ
   pub budget : ℕ
   pub depth : ℕ
-  pub records : ℕ
+  pub lent : Lent
   pub size : ℕ
   pub automaton : ℕ → Automaton
 
@@ -64,26 +65,26 @@ module _ (t : Terms) (holds : ℕ → List ℕ → Type 0) where
   -- the checks of each call, in their order
   abbrev pub checks : Desk → Call → List (ℕ × Type 0)
   checks d (Place p listed) =
-      place_checks t.sets t.budget t.depth (length d.pile) t.records (8 * t.records) t.size (t.automaton p).places p listed.now
+      place_checks t.sets t.budget t.depth (length d.pile) t.lent.states t.lent.links t.size (t.automaton p).places p listed.now
       ++ over d.pile (Place p listed)
   checks d (Single i) = (no_set t.sets i ∷ full t.depth (length d.pile) ∷ []) ++ over d.pile (Single i)
   checks d Negate = top_checks (length d.pile)
-  checks d Both = join_checks t.budget (length d.pile) t.records (8 * t.records) ++ over d.pile Both
-  checks d Either = join_checks t.budget (length d.pile) t.records (8 * t.records) ++ over d.pile Either
-  checks d (Hide i) = hide_checks t.sets t.budget (length d.pile) t.records (8 * t.records) i ++ over d.pile (Hide i)
+  checks d Both = join_checks t.budget (length d.pile) t.lent.pairs t.lent.links ++ over d.pile Both
+  checks d Either = join_checks t.budget (length d.pile) t.lent.pairs t.lent.links ++ over d.pile Either
+  checks d (Hide i) = hide_checks t.sets t.budget (length d.pile) t.lent.sets t.lent.links i ++ over d.pile (Hide i)
   checks d Drop = top_checks (length d.pile)
   checks d Save = (20, 4 < t.sets) ∷ fewer_than 1 (length d.pile) ∷ too_long d.pile d.buffers.text ∷ []
   checks d Judge = judge_checks t.budget (length d.pile) (length d.buffers.witness) (length d.buffers.counterexample)
 
   -- The reply that is owed to a call, and the desk that it leaves. A refusal is the number of the first check that fails, and leaves
-  -- the desk as it was. Otherwise every check passes. A building call puts its formula on the pile, and counts met and kept; drop
-  -- takes the top away; save and judge write to their buffers and say what they wrote of the formula on top.
+  -- the desk as it was. Otherwise every check passes. A building call puts its formula on the pile, and counts met and kept, of
+  -- which met is within the budget; drop takes the top away; save and judge write to their buffers and say what they wrote of the formula on top.
   abbrev pub Owes : Desk → Call → Reply → Desk → Type 0
   Owes d call (Refused why) d' = FirstFailed (checks d call) (number_of why) × (d' ≡ d)
   Owes d call (Built met kept) d' =
       AllPass (checks d call) × (d'.buffers ≡ d.buffers) × Becomes d.pile call d'.pile
       × (f : Formula) × (rest : List Formula) × (d'.pile ≡ f ∷ rest)
-      × Count t.sets (SameMet t.sets t.automaton holds f) met × Count t.sets (SameAfter t.sets holds f) kept
+      × Count t.sets (SameMet t.sets t.automaton holds f) met × Count t.sets (SameAfter t.sets holds f) kept × (met ≤ t.budget)
   Owes d call Dropped d' = AllPass (checks d call) × (d'.buffers ≡ d.buffers) × (call ≡ Drop) × (f : Formula) × (d.pile ≡ f ∷ d'.pile)
   Owes d call (Saved bytes) d' =
       AllPass (checks d call) × (d'.pile ≡ d.pile) × (call ≡ Save)

@@ -1,9 +1,11 @@
 -- What the definitions of runs come to, as statements. The function `laws_of_runs` carries their proofs.
-use Rattle.std.specs.Prelude.{◌≡◌, ℕ, ◌<◌, ◌↔◌, List}
+use Rattle.std.specs.Prelude.{◌≡◌, ℕ, ◌<◌, ◌≤◌, ◌↔◌, List}
 use Rattle.words.specs.Formulas.{Formula, single}
 use Rattle.words.specs.Residuals.{Count, MoreThan}
 use Rattle.calls.specs.declared.call.Call.{Call}
+use Rattle.calls.specs.declared.call.Call.TheVariants.{Negate}
 use Rattle.calls.specs.declared.call.Reply.{Reply}
+use Rattle.calls.specs.declared.call.Reply.TheVariants.{Built}
 use Rattle.calls.specs.Pile.{SameMet}
 use Rattle.calls.specs.Owed.{Terms, Desk, Owes, Fed}
 
@@ -17,3 +19,5 @@ pub record RunLaws (holds : ℕ → List ℕ → Type 0) : Type 0 where
       → MoreThan t.sets (SameMet t.sets t.automaton holds f) t.budget ↔ (t.budget < met)
   -- single meets three
   pub single_meets : (t : Terms) (i : ℕ) → i < t.sets → Count t.sets (SameMet t.sets t.automaton holds (single i)) 3
+  -- negate meets the residuals that it keeps, and no more than the budget
+  pub negate_meets : (t : Terms) (d e : Desk) (met kept : ℕ) → Owes t holds d Negate (Built met kept) e → (met ≡ kept) × (met ≤ t.budget)

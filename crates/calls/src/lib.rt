@@ -10,7 +10,7 @@ mod running;
 pub use call::{Call, Reply};
 pub use laws::laws_of_runs;
 pub use making::make;
-pub use memory::{Output, Work};
+pub use memory::{Output, Work, WorkFor};
 pub use running::{Settings, replay};
 
 #[cfg(test)]
@@ -55,7 +55,7 @@ mod tests {
 
     // The calls, and runs of them on a new tray. They promise nothing here, so that what a test does stays small for the
     // prover.
-    fn made<const STATES: usize>(tray: &mut Tray, work: &mut Work<STATES>, call: Call) -> Reply {
+    fn made<const STATES: usize>(tray: &mut Tray, work: &mut WorkFor<STATES>, call: Call) -> Reply {
         let mut output: Output<3, 0> = Output::new();
         make(&Standard, tray, work, &mut output, call)
     }
@@ -69,7 +69,7 @@ mod tests {
         let mut tables = [0u16; 66];
         let mut spare = [0u16; 66];
         let mut tray = Tray::over(&mut tables, &mut spare);
-        let mut work: Work<3> = Work::new();
+        let mut work: WorkFor<3> = Work::new();
         replay(
             &Standard, settings, &mut tray, calls, next, &mut work, output,
         )
@@ -88,7 +88,7 @@ mod tests {
         let mut spare = [0u16; 54];
         let mut tray = Tray::over(&mut tables, &mut spare);
         tray.open(3, 3, 2)?;
-        let mut work: Work<3> = Work::new();
+        let mut work: WorkFor<3> = Work::new();
         let placed = made(&mut tray, &mut work, SUM);
         assert_eq!(rt; placed, Reply::Built { met: 3, kept: 3 });
         let hidden = made(&mut tray, &mut work, Call::Hide(2));
@@ -104,7 +104,7 @@ mod tests {
         let mut spare = [0u16; 54];
         let mut tray = Tray::over(&mut tables, &mut spare);
         tray.open(3, 3, 2)?;
-        let mut work: Work<2> = Work::new();
+        let mut work: WorkFor<2> = Work::new();
         let placed = made(&mut tray, &mut work, SUM);
         assert_eq!(rt; placed, Reply::Refused(Refusal::NoMemory));
         Ok(())

@@ -4,28 +4,37 @@ ghost use Rattle.hiding.specs.StateSets.{no_states};
 
 use hiding::StateSet;
 
-/// Work memory for a budget of so many states: a record of each kind and eight links for each of them.
+/// Work memory for calls: so many records of each kind, and so many rows of eight links, of which an exploration needs one
+/// for each state that it may meet.
 #[derive(Drop)]
-pub struct Work<const STATES: usize> {
+pub struct Work<const STATES: usize, const PAIRS: usize, const SETS: usize, const LINKS: usize> {
     pub states: [u16; STATES],
-    pub pairs: [(u16, u16); STATES],
-    pub sets: [StateSet; STATES],
-    pub links: [[u16; 8]; STATES],
+    pub pairs: [(u16, u16); PAIRS],
+    pub sets: [StateSet; SETS],
+    pub links: [[u16; 8]; LINKS],
 }
 
-impl<const STATES: usize> Work<STATES> {
+/// Work memory for every call within a budget of so many states.
+pub type WorkFor<const STATES: usize> = Work<STATES, STATES, STATES, STATES>;
+
+impl<const STATES: usize, const PAIRS: usize, const SETS: usize, const LINKS: usize> Work<
+    STATES,
+    PAIRS,
+    SETS,
+    LINKS,
+> {
     /// Memory in which every number is 0 and every set is empty.
-    pub fn new() -> Work<STATES>
+    pub fn new() -> Work<STATES, PAIRS, SETS, LINKS>
         ensures states { result.states ≡ replicate STATES 0 }
-        ensures pairs { result.pairs ≡ replicate STATES (0, 0) }
-        ensures sets { result.sets ≡ replicate STATES no_states }
-        ensures links { result.links ≡ replicate STATES (replicate 8 0) }
+        ensures pairs { result.pairs ≡ replicate PAIRS (0, 0) }
+        ensures sets { result.sets ≡ replicate SETS no_states }
+        ensures links { result.links ≡ replicate LINKS (replicate 8 0) }
     {
         Work {
             states: [0; STATES],
-            pairs: [(0, 0); STATES],
-            sets: [StateSet::empty(); STATES],
-            links: [[0; 8]; STATES],
+            pairs: [(0, 0); PAIRS],
+            sets: [StateSet::empty(); SETS],
+            links: [[0; 8]; LINKS],
         }
     }
 }

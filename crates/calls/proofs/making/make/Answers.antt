@@ -1,26 +1,10 @@
-use Rattle.std.proofs.Common.{◌≡◌, ◌*◌, length, arith, refl}
+use Rattle.calls.specs.Buffers.{held}
+use Rattle.calls.specs.Lent.{lent_by}
+use Rattle.calls.proofs.Feeding.{continues}
 use Rattle.calls.proofs.making.make.Goals as goal
 
-pub returns-in-Place-clause-makes : goal.returns-in-Place-clause-makes
-returns-in-Place-clause-makes g c =
-    let records : length c.args.work.now.states ≡ g.row.STATES = omega arith in
-    let links : length c.as_flattened_mut-links.result.now ≡ 8 * g.row.STATES = omega (arith, c.as_flattened_mut-links.ensures.len) in
-    rw c.in-Place.is (c.place.result, c.from.ensures, rw (← links) (rw (← records) c.place.ensures.places), refl)
-
-pub returns-in-Both-clause-makes : goal.returns-in-Both-clause-makes
-returns-in-Both-clause-makes g c =
-    let records : length c.args.work.now.pairs ≡ g.row.STATES = omega arith in
-    let links : length c.as_flattened_mut-links.result.now ≡ 8 * g.row.STATES = omega (arith, c.as_flattened_mut-links.ensures.len) in
-    rw c.in-Both.is (c.both.result, c.from-in-Both.ensures, rw (← links) (rw (← records) c.both.ensures.joins), refl)
-
-pub returns-in-Either-clause-makes : goal.returns-in-Either-clause-makes
-returns-in-Either-clause-makes g c =
-    let records : length c.args.work.now.pairs ≡ g.row.STATES = omega arith in
-    let links : length c.as_flattened_mut-links.result.now ≡ 8 * g.row.STATES = omega (arith, c.as_flattened_mut-links.ensures.len) in
-    rw c.in-Either.is (c.either.result, c.from-in-Either.ensures, rw (← links) (rw (← records) c.either.ensures.joins), refl)
-
-pub returns-in-Hide-clause-makes : goal.returns-in-Hide-clause-makes
-returns-in-Hide-clause-makes g c =
-    let records : length c.args.work.now.sets ≡ g.row.STATES = omega arith in
-    let links : length c.as_flattened_mut-links.result.now ≡ 8 * g.row.STATES = omega (arith, c.as_flattened_mut-links.ensures.len) in
-    rw c.in-Hide.is (c.hide.result, c.from-in-Hide.ensures, rw (← links) (rw (← records) c.hide.ensures.hides), refl)
+pub returns-clause-step : goal.returns-clause-step
+returns-clause-step g c =
+    continues (lent_by g.row.STATES g.row.PAIRS g.row.SETS g.row.LINKS) (g.B.Book.size c.args.book.now) (g.B.Book.automaton c.args.book.now)
+    (g.B.Book.holds c.args.book.now) c.args.call c.args.tray.now.control c.args.tray.now.tables.now (held c.args.output.now)
+    c.ask.new.tray.control c.ask.new.tray.tables.now (held c.ask.new.output) c.ask.result c.ask.ensures.makes

@@ -1,9 +1,10 @@
-use Rattle.std.proofs.Common.{List, [], take}
+use Rattle.std.proofs.Common.{◌≡◌, List, [], take}
 use Rattle.words.specs.Formulas.{Formula}
 use Rattle.tray.specs.Memory.{SameMemory}
 use Rattle.calls.specs.Buffers.{held}
+use Rattle.calls.specs.Lent.{lent_by}
 use Rattle.calls.specs.Owed.{Fed}
-use Rattle.calls.specs.Promise.{StandsFor, terms}
+use Rattle.calls.specs.Promise.{StandsFor, settings_of, terms}
 use Rattle.calls.proofs.running.replay.Given as goal
 
 -- the calls so far have fed a pile, and the tray holds its tables
@@ -11,7 +12,7 @@ abbrev pub invariant-loop-call : goal.invariant-loop-call
 invariant-loop-call g l =
     SameMemory l.initial.tray l.tray
     × (pile : List Formula)
-    × Fed (terms l.fn.settings g.row.STATES (g.B.Book.size l.book) (g.B.Book.automaton l.book)) (g.B.Book.holds l.book)
+    × Fed (terms l.fn.settings (lent_by g.row.STATES g.row.PAIRS g.row.SETS g.row.LINKS) (g.B.Book.size l.book) (g.B.Book.automaton l.book)) (g.B.Book.holds l.book)
     (record { pile = []; buffers = held l.initial.output }) (take l.call-index l.calls) (record { pile = pile; buffers = held l.output })
-    × StandsFor (terms l.fn.settings g.row.STATES (g.B.Book.size l.book) (g.B.Book.automaton l.book)) (g.B.Book.holds l.book)
-    l.tray.control l.tray.tables.now pile
+    × (settings_of l.tray.control ≡ l.fn.settings)
+    × StandsFor (g.B.Book.holds l.book) l.tray.control l.tray.tables.now pile
