@@ -2,7 +2,7 @@
 use crate::chain;
 use crate::multiples::GROWTH;
 use books::Standard;
-use calls::{Call, Output, Reply, Work, make};
+use calls::{Call, Output, Reply, WorkFor, make};
 use std::io;
 use std::rt::Clock;
 use std::time::{Duration, Instant};
@@ -49,7 +49,7 @@ impl From<io::Error> for Stopped {
 #[derive(Drop)]
 pub struct Bench<'m, 's> {
     tray: Tray<'m, 's>,
-    work: Work<BUDGET>,
+    work: WorkFor<BUDGET>,
     output: Output<BUDGET, 0>,
     setting: Setting,
 }
@@ -58,7 +58,7 @@ impl<'m, 's> Bench<'m, 's> {
     pub fn over(tables: &'m mut [u16], spare: &'s mut [u16], setting: Setting) -> Bench<'m, 's> {
         Bench {
             tray: Tray::over(tables, spare),
-            work: Work::new(),
+            work: WorkFor::new(),
             output: Output::new(),
             setting,
         }

@@ -8,7 +8,7 @@ use crate::answer::{Answer, Judged, MOST_STATES};
 use crate::printing::put_answer;
 use crate::question::{Question, Unread, read_question};
 use books::NamedBook;
-use calls::{Settings, Work};
+use calls::{Settings, WorkFor};
 use grammar::{Build, Step};
 use reading::{Fault, Reason, read};
 use std::alloc::AllocError;
@@ -47,7 +47,7 @@ fn judge_top(tray: &Tray) -> Result<Judged, Fault>
 fn judge_on<B: NamedBook>(book: &B, text: &[u8], tray: &mut Tray) -> Result<Judged, Fault>
     ensures { JudgesOn (B.NamedBook.numbered book.now) (B.Book.size book.now) (B.Book.automaton book.now) (B.Book.holds book.now) text.now tray.old.control result }
 {
-    let mut work: Work<STATES> = Work::new();
+    let mut work: WorkFor<STATES> = WorkFor::new();
     let mut steps = [Step {
         place: 0,
         build: Build::Negate,

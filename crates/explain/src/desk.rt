@@ -3,12 +3,13 @@ ghost use Rattle.std.specs.Prelude.{◌≡◌, IfOk, take};
 ghost use Rattle.deciding.specs.Answers.{Opened};
 ghost use Rattle.books.specs.Standard.{count, automaton, holds};
 ghost use Rattle.calls.specs.Buffers.{held};
+ghost use Rattle.calls.specs.Lent.{lent_for};
 ghost use Rattle.calls.specs.Making.{Makes};
 ghost use Rattle.explain.specs.Shown.{Shows};
 ghost use Rattle.explain.specs.Asked.{Asks, few_places};
 
 use books::Standard;
-use calls::{Call, Output, Reply, Settings, Work, make};
+use calls::{Call, Output, Reply, Settings, WorkFor, make};
 use grammar::Build;
 use tray::{Refusal, Tray};
 
@@ -29,7 +30,7 @@ const BYTES: usize = 68 + STATES * 54;
 #[derive(Drop)]
 pub struct Desk<'m> {
     tray: Tray<'m, 'm>,
-    work: Work<STATES>,
+    work: WorkFor<STATES>,
     output: Output<COLUMNS, BYTES>,
 }
 
@@ -47,14 +48,14 @@ impl<'m> Desk<'m> {
         tray.open(sets, budget, depth)?;
         Ok(Desk {
             tray,
-            work: Work::new(),
+            work: WorkFor::new(),
             output: Output::new(),
         })
     }
 
     /// Makes a call.
     pub fn make(&mut self, call: Call) -> Reply
-        ensures { Makes 64 count automaton holds call.entry self.old.tray.control self.old.tray.tables.now (held self.old.output) self.new.tray.control self.new.tray.tables.now (held self.new.output) result }
+        ensures { Makes (lent_for 64) count automaton holds call.entry self.old.tray.control self.old.tray.tables.now (held self.old.output) self.new.tray.control self.new.tray.tables.now (held self.new.output) result }
     {
         let Desk { tray, work, output } = self;
         make(&Standard, tray, work, output, call)

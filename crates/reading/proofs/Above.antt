@@ -22,6 +22,7 @@ use Rattle.tray.specs.declared.control.Control.{Control}
 use Rattle.tray.specs.declared.refusal.Refusal.{Refusal}
 use Rattle.tray.proofs.Checking.{not_above}
 use Rattle.tray.proofs.Telling.{formula_laws}
+use Rattle.calls.specs.Lent.{lent_for}
 use Rattle.calls.specs.Owed.{Terms}
 use Rattle.calls.specs.Pile.{SameMet}
 use Rattle.calls.specs.Promise.{TellEach}
@@ -65,7 +66,7 @@ told_at n holds c tables f k j e told = subst (λ i. Tells n holds f (says c tab
 -- calls go by the settings, which stay
 same_terms : (records size : ℕ) (a : ℕ → Automaton) (c c1 : Control) → SameSettings c c1 → terms_of c1 records size a ≡ terms_of c records size a
 same_terms records size a c c1 same =
-    let made : ℕ → ℕ → ℕ → Terms = λ n b d. record { sets = n; budget = b; depth = d; records = records; size = size; automaton = a } in
+    let made : ℕ → ℕ → ℕ → Terms = λ n b d. record { sets = n; budget = b; depth = d; lent = lent_for records; size = size; automaton = a } in
     ap (λ n. made n c1.budget c1.depth) same.sets ∙ ap (λ b. made c.sets b c1.depth) same.budget ∙ ap (made c.sets c.budget) same.depth
 
 module _ (records size : ℕ) (a : ℕ → Automaton) (holds : ℕ → List ℕ → Type 0) (below : ℕ) (c : Control) (tables : List ℕ) (c1 : Control) (tables1 : List ℕ)

@@ -1,5 +1,5 @@
 -- A tray that stood for a pile of formulas, with more tables above its own.
-use Rattle.std.proofs.Common.{◌≡◌, ℕ, ◌+◌, ◌<◌, Bool, List, [], ◌∷◌, ◌++◌, length, sym, ap, ◌∙◌, subst, arith}
+use Rattle.std.proofs.Common.{◌≡◌, ℕ, ◌+◌, ◌<◌, Bool, List, [], ◌∷◌, ◌++◌, length, sym, subst, arith}
 use Rattle.std.proofs.lemmas.List.{length-append}
 use Rattle.words.specs.Formulas.{Formula, Tells}
 use Rattle.tray.specs.Building.{SameSettings, SameTables}
@@ -24,14 +24,11 @@ tell_more n holds table below (f ∷ rest) pile is told lower =
 module _ (holds : ℕ → List ℕ → Type 0) (c : Control) (tables : List ℕ) (c' : Control) (tables' : List ℕ) where
   pub stands_with : (more : List Formula) → SameSettings c c' → c'.count ≡ c.count + length more → SameTables c.count c tables c' tables'
       → TellEach c.sets holds (λ k. says c' tables' (c.count + k)) more → StandsWith holds more c tables c' tables'
-  stands_with more same count others told t pile s = record {
-    sets = same.sets ∙ s.sets;
-    budget = same.budget ∙ s.budget;
-    depth = same.depth ∙ s.depth;
+  stands_with more same count others told pile s = record {
     count = omega (arith, count, s.count, length-append more pile);
-    tells = tell_more t.sets holds (says c' tables') c.count more pile s.count
-        (subst (λ n. TellEach n holds (λ k. says c' tables' (c.count + k)) more) s.sets told)
-        (tell_each_same t.sets holds (says c tables) (says c' tables') pile (λ k h. (others k (omega (arith, s.count))).1) s.tells);
+    tells = subst (λ n. TellEach n holds (says c' tables') (more ++ pile)) (sym same.sets)
+        (tell_more c.sets holds (says c' tables') c.count more pile s.count told
+        (tell_each_same c.sets holds (says c tables) (says c' tables') pile (λ k h. (others k (omega (arith, s.count))).1) s.tells));
   }
 
   pub stands_still : SameTray c tables c' tables' → StandsWith holds [] c tables c' tables'

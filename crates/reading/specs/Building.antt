@@ -1,6 +1,6 @@
 -- Making the steps of a claim on a tray: the pile of formulas that they make above the tables that were there, and the first step
 -- that is refused.
-use Rattle.std.specs.Prelude.{◌≡◌, ℕ, ◌+◌, ◌*◌, ◌⊎◌, cond, ◌==◌, List, [], ◌∷◌, ◌++◌, length}
+use Rattle.std.specs.Prelude.{◌≡◌, ℕ, ◌+◌, ◌⊎◌, cond, ◌==◌, List, [], ◌∷◌, ◌++◌, length}
 use Rattle.words.specs.Formulas.{Formula, placed, single, negation, both, either, hidden}
 use Rattle.words.specs.Residuals.{MoreThan}
 use Rattle.tray.specs.Checks.{FirstFailed, AllPass}
@@ -54,13 +54,13 @@ module _ (t : Terms) (holds : ℕ → List ℕ → Type 0) (below : ℕ) where
   -- the checks of each call, in their order
   abbrev pub checks : List Formula → Call → List (ℕ × Type 0)
   checks pile (place p listed) =
-      place_checks t.sets t.budget t.depth (below + length pile) t.records (8 * t.records) t.size (t.automaton p).places p listed
+      place_checks t.sets t.budget t.depth (below + length pile) t.lent.states t.lent.links t.size (t.automaton p).places p listed
       ++ too_many_met (placed p listed)
   checks pile (single-call i) = (no_set t.sets i ∷ full t.depth (below + length pile) ∷ []) ++ too_many_met (single i)
   checks pile negate = top_checks (below + length pile)
-  checks pile both-call = join_checks t.budget (below + length pile) t.records (8 * t.records) ++ too_many_met (made both-call pile)
-  checks pile either-call = join_checks t.budget (below + length pile) t.records (8 * t.records) ++ too_many_met (made either-call pile)
-  checks pile (hide i) = hide_checks t.sets t.budget (below + length pile) t.records (8 * t.records) i ++ too_many_met (made (hide i) pile)
+  checks pile both-call = join_checks t.budget (below + length pile) t.lent.pairs t.lent.links ++ too_many_met (made both-call pile)
+  checks pile either-call = join_checks t.budget (below + length pile) t.lent.pairs t.lent.links ++ too_many_met (made either-call pile)
+  checks pile (hide i) = hide_checks t.sets t.budget (below + length pile) t.lent.sets t.lent.links i ++ too_many_met (made (hide i) pile)
 
   -- each step passes its checks
   abbrev pub AllMade : List Formula → List (ℕ × Call) → Type 0

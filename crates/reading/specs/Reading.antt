@@ -8,7 +8,6 @@ use Rattle.tray.specs.Building.{SameSettings, SameTables}
 use Rattle.tray.specs.Refusals.{number_of}
 use Rattle.tray.specs.View.{says}
 use Rattle.tray.specs.declared.control.Control.{Control}
-use Rattle.calls.specs.Owed.{Terms}
 use Rattle.calls.specs.Pile.{SameMet}
 use Rattle.calls.specs.Promise.{StandsFor}
 use Rattle.grammar.specs.Claims.{Claim}
@@ -26,7 +25,7 @@ use Rattle.reading.specs.declared.fault.Reason.TheVariants.{Text, Call}
 -- a tray that stood for a pile of formulas now stands for it with these on top, whatever the pile is
 abbrev pub StandsWith : (ℕ → List ℕ → Type 0) → List Formula → Control → List ℕ → Control → List ℕ → Type 0
 StandsWith holds more c tables c' tables' =
-    (t : Terms) (pile : List Formula) → StandsFor t holds c tables pile → StandsFor t holds c' tables' (more ++ pile)
+    (pile : List Formula) → StandsFor holds c tables pile → StandsFor holds c' tables' (more ++ pile)
 
 -- A book that numbers names, with so many predicates, the automaton and the relation of each; so many records for explored states.
 module _ (numbered : List ℕ → Option ℕ) (size : ℕ) (a : ℕ → Automaton) (holds : ℕ → List ℕ → Type 0) (records : ℕ) where

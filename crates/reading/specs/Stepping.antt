@@ -11,6 +11,7 @@ use Rattle.tray.specs.Refusals.{number_of}
 use Rattle.tray.specs.View.{slot, says}
 use Rattle.tray.specs.declared.control.Control.{Control}
 use Rattle.tray.specs.declared.refusal.Refusal.{Refusal}
+use Rattle.calls.specs.Lent.{lent_for}
 use Rattle.calls.specs.Owed.{Terms}
 use Rattle.calls.specs.Pile.{SameMet}
 use Rattle.calls.specs.Promise.{TellEach}
@@ -49,7 +50,7 @@ SameTray c tables c' tables' =
 
 -- what making steps on this tray goes by
 abbrev pub terms_of : Control → ℕ → ℕ → (ℕ → Automaton) → Terms
-terms_of c records size a = record { sets = c.sets; budget = c.budget; depth = c.depth; records = records; size = size; automaton = a }
+terms_of c records size a = record { sets = c.sets; budget = c.budget; depth = c.depth; lent = lent_for records; size = size; automaton = a }
 
 -- so is each part of a formula
 abbrev pub Sure : (ℕ → List ℕ → Type 0) → Formula → Type 0

@@ -5,7 +5,7 @@ ghost use Rattle.reading.specs.Stepping.{Steps, Leaves, Builds};
 
 use crate::fault::Fault;
 use books::Book;
-use calls::Work;
+use calls::{Work, WorkFor};
 use grammar::{Build, Step};
 use tray::{Refusal, Tray};
 
@@ -13,7 +13,7 @@ use tray::{Refusal, Tray};
 fn make_step<B: Book, const STATES: usize>(
     book: &B,
     tray: &mut Tray,
-    work: &mut Work<STATES>,
+    work: &mut WorkFor<STATES>,
     build: Build,
 ) -> Result<(usize, usize), Refusal>
     ensures steps { Steps STATES (B.Book.size book.now) (B.Book.automaton book.now) (B.Book.holds book.now) build tray.old.control tray.old.tables.now tray.new.control tray.new.tables.now result }
@@ -56,7 +56,7 @@ fn drop_to(tray: &mut Tray, count: usize)
 pub(crate) fn build<B: Book, const STATES: usize>(
     book: &B,
     tray: &mut Tray,
-    work: &mut Work<STATES>,
+    work: &mut WorkFor<STATES>,
     steps: &[Step],
 ) -> Result<(usize, usize), Fault>
     ensures builds { Builds STATES (B.Book.size book.now) (B.Book.automaton book.now) (B.Book.holds book.now) steps.now tray.old.control tray.old.tables.now tray.new.control tray.new.tables.now result }

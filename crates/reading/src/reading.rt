@@ -6,7 +6,7 @@ ghost use Rattle.reading.specs.Reading.{ReadsText};
 use crate::building::build;
 use crate::fault::Fault;
 use books::NamedBook;
-use calls::Work;
+use calls::WorkFor;
 use grammar::{Step, plan_text};
 use tray::Tray;
 
@@ -17,7 +17,7 @@ pub fn read<B: NamedBook, const STATES: usize>(
     book: &B,
     text: &[u8],
     tray: &mut Tray,
-    work: &mut Work<STATES>,
+    work: &mut WorkFor<STATES>,
     steps: &mut [Step],
 ) -> Result<(usize, usize), Fault>
     ensures reads { ReadsText (B.NamedBook.numbered book.now) (B.Book.size book.now) (B.Book.automaton book.now) (B.Book.holds book.now) STATES (length steps.old) text.now tray.old.control tray.old.tables.now tray.new.control tray.new.tables.now result }

@@ -1,6 +1,6 @@
 use super::*;
 use books::Standard;
-use calls::Work;
+use calls::WorkFor;
 use grammar::{Build, Flaw, Step};
 use tray::{Refusal, Tray};
 
@@ -9,7 +9,7 @@ const STEPS: usize = 208;
 
 // Reads a text onto a tray. It promises nothing here, so that what a test does stays small for the prover.
 fn read_onto(tray: &mut Tray, text: &[u8]) -> Result<(usize, usize), Fault> {
-    let mut work: Work<9> = Work::new();
+    let mut work: WorkFor<9> = WorkFor::new();
     let mut steps = [Step {
         place: 0,
         build: Build::Negate,

@@ -14,6 +14,7 @@ use Rattle.calls.specs.declared.call.Call.TheVariants.{Place}
 use Rattle.calls.specs.declared.call.Reply.{Reply}
 use Rattle.calls.specs.declared.call.Reply.TheVariants.{Refused, Built, Dropped, Saved, Judged}
 use Rattle.calls.specs.Buffers.{Buffers}
+use Rattle.calls.specs.Lent.{lent_for}
 use Rattle.calls.specs.Owed.{Terms, Desk, Owes, FormulaText}
 use Rattle.calls.proofs.OnePile.{one_top}
 use Rattle.calls.proofs.OneText.{one_text}
@@ -115,7 +116,7 @@ module _ (records budget : ℕ) (b : Loaded) (spare : ℕ) (c : Control) (tables
         let fed = promise.3 in
         let e : Desk = fed.0 in
         let owed = promise.4 in
-        let goes_by : Terms = record { sets = b.places; budget = budget; depth = 1; records = records; size = size b; automaton = automaton b } in
+        let goes_by : Terms = record { sets = b.places; budget = budget; depth = 1; lent = lent_for records; size = size b; automaton = automaton b } in
         let top : e.pile ≡ owed.5 ∷ owed.6 = ap (λ (x : Desk). x.pile) (sym fed.2) ∙ owed.8 in
         let is : placed 0 listed.now ≡ owed.5 =
         placed_top goes_by (holds b) (record { pile = []; buffers = out }) refl 0 listed fed.1.0 e fed.1.1 owed.5 owed.6 top in

@@ -9,6 +9,7 @@ use Rattle.calls.specs.declared.call.Call.TheVariants.{Place, Save}
 use Rattle.calls.specs.declared.call.Reply.{Reply}
 use Rattle.calls.specs.declared.call.Reply.TheVariants.{Saved, Refused, Built, Dropped, Judged}
 use Rattle.calls.specs.Buffers.{Buffers}
+use Rattle.calls.specs.Lent.{lent_for}
 use Rattle.calls.specs.Promise.{Replays}
 use Rattle.loading.specs.declared.loaded.Loaded.{Loaded}
 use Rattle.loading.specs.Loaded.{size, automaton, holds}
@@ -21,7 +22,7 @@ use Rattle.returning.specs.declared.again.Unreturned.TheVariants.{NotLoaded, Not
 abbrev pub SavesAgain : ℕ → ℕ → Loaded → ℕ → Control → List ℕ → Buffers → Control → List ℕ → Buffers → Result Reply Refusal → Type 0
 SavesAgain records budget b spare c tables out c' tables' out' r =
     (listed : Bor (List ℕ)) × (listed.now ≡ take b.places (0 ∷ (1 ∷ (2 ∷ (3 ∷ [])))))
-    × Replays (record { sets = b.places; budget = budget; depth = 1 }) records (size b) (automaton b) (holds b) spare c tables out
+    × Replays (record { sets = b.places; budget = budget; depth = 1 }) (lent_for records) (size b) (automaton b) (holds b) spare c tables out
     (Place 0 listed ∷ []) Save c' tables' out' r
 
 -- The text is loaded, and the run is made; or it is not loaded, and no more is done.

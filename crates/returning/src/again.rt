@@ -5,7 +5,7 @@ ghost use Rattle.calls.specs.Buffers.{held};
 ghost use Rattle.returning.specs.Returning.{Returns, SameBytes, SavesAgain};
 
 use books::Book;
-use calls::{Call, Output, Reply, Settings, Work, replay};
+use calls::{Call, Output, Reply, Settings, WorkFor, replay};
 use loading::{Fault, Loaded, load};
 use tray::{Refusal, Tray};
 
@@ -46,7 +46,7 @@ fn place_and_save<const STATES: usize, const COLUMNS: usize, const BYTES: usize>
     listed: &[u8],
     tray: &mut Tray,
     budget: usize,
-    work: &mut Work<STATES>,
+    work: &mut WorkFor<STATES>,
     output: &mut Output<COLUMNS, BYTES>,
 ) -> Result<Reply, Refusal>
     requires { listed.now ≡ take book.now.places (0 ∷ (1 ∷ (2 ∷ (3 ∷ [])))) }
@@ -71,7 +71,7 @@ pub fn save_again<const STATES: usize, const COLUMNS: usize, const BYTES: usize>
     place: &mut Loaded,
     tray: &mut Tray,
     budget: usize,
-    work: &mut Work<STATES>,
+    work: &mut WorkFor<STATES>,
     output: &mut Output<COLUMNS, BYTES>,
 ) -> Result<Reply, Unreturned>
     ensures returns { Returns STATES text.now name.now budget memory.old place.old (length tray.old.spare.now) tray.old.control tray.old.tables.now (held output.old) memory.new place.new tray.new.control tray.new.tables.now (held output.new) result }

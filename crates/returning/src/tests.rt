@@ -1,6 +1,6 @@
 //! Tables that come back, and why others do not.
 use super::*;
-use calls::{Output, Reply, Work};
+use calls::{Output, Reply, WorkFor};
 use loading::{Fault, Loaded, Unloaded};
 use tray::{Refusal, Tray};
 
@@ -10,7 +10,7 @@ fn again(text: &[u8], budget: usize) -> (Result<Reply, Unreturned>, [u8; 51]) {
     let mut tables = [0; 45];
     let mut spare = [0; 90];
     let mut tray = Tray::over(&mut tables, &mut spare);
-    let mut work: Work<9> = Work::new();
+    let mut work: WorkFor<9> = WorkFor::new();
     let mut output: Output<9, 51> = Output::new();
     let answer = save_again(
         text,

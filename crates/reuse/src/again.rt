@@ -1,7 +1,7 @@
 //! The round trip: a saved table is loaded, placed and saved again.
 use crate::told::Reason;
 use crate::using::NAME;
-use calls::{Output, Reply, Work};
+use calls::{Output, Reply, WorkFor};
 use loading::{Loaded, MOST_CELLS};
 use returning::{Unreturned, save_again};
 use std::io;
@@ -55,7 +55,7 @@ fn returned(
     let mut tables = [0u16; SLOT];
     let mut spare = [0u16; 2 * SLOT];
     let mut tray = Tray::over(&mut tables, &mut spare);
-    let mut work: Work<BUDGET> = Work::new();
+    let mut work: WorkFor<BUDGET> = WorkFor::new();
     save_again(
         text,
         NAME,

@@ -1,7 +1,7 @@
 //! What a loaded table is good for: claims that use it beside the standard book.
 use crate::told::{Entry, tell_judgement};
 use books::{Book, Bound, NamedBook, Predicate, Standard};
-use calls::{Call, Output, Reply, Settings, Work, replay};
+use calls::{Call, Output, Reply, Settings, WorkFor, replay};
 use loading::Loaded;
 use std::io;
 use tray::{Refusal, Tray};
@@ -34,7 +34,7 @@ type Shelf<'b> = Bound<'b, 'b, Standard, Loaded>;
 struct Workbench<'b, 'm, 's> {
     shelf: &'b Shelf<'b>,
     tray: Tray<'m, 's>,
-    work: Work<BUDGET>,
+    work: WorkFor<BUDGET>,
     output: Output<BUDGET, 0>,
 }
 
@@ -43,7 +43,7 @@ impl<'b, 'm, 's> Workbench<'b, 'm, 's> {
         Workbench {
             shelf,
             tray: Tray::over(tables, spare),
-            work: Work::new(),
+            work: WorkFor::new(),
             output: Output::new(),
         }
     }

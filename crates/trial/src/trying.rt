@@ -5,7 +5,7 @@ use crate::past::Seen;
 use crate::recording::Board;
 use crate::verdict::{tell_judgement, tell_table};
 use books::Standard;
-use calls::{Call, Output, Reply, Settings, Work, replay};
+use calls::{Call, Output, Reply, Settings, WorkFor, replay};
 use std::io;
 use tray::{Refusal, Tray};
 
@@ -41,7 +41,7 @@ const BYTES: usize = NAMES + BUDGET * LINE;
 #[derive(Drop)]
 struct Workbench<'m, 's> {
     tray: Tray<'m, 's>,
-    work: Work<BUDGET>,
+    work: WorkFor<BUDGET>,
     output: Output<BUDGET, BYTES>,
 }
 
@@ -49,7 +49,7 @@ impl<'m, 's> Workbench<'m, 's> {
     fn over(tables: &'m mut [u16], spare: &'s mut [u16]) -> Workbench<'m, 's> {
         Workbench {
             tray: Tray::over(tables, spare),
-            work: Work::new(),
+            work: WorkFor::new(),
             output: Output::new(),
         }
     }
