@@ -17,7 +17,7 @@ use Rattle.reading.specs.Building.{AllMade, RefusedAt}
 use Rattle.reading.specs.Formulas.{whole}
 use Rattle.reading.specs.Meaning.{Satisfied, WholeMeans}
 use Rattle.reading.specs.Reading.{RefusedFor, ReadsText}
-use Rattle.reading.specs.Stepping.{SameTray, StandsAbove, Sure, Counted, Enough, pile_after, terms_of, Builds}
+use Rattle.reading.specs.Stepping.{SameTray, StandsAbove, Sure, Counted, Enough, pile_after, terms_of, MakesSteps}
 use Rattle.reading.specs.declared.fault.Fault.{Fault}
 use Rattle.reading.specs.declared.fault.Reason.TheVariants.{Call as call}
 use Rattle.reading.proofs.Piles.{whole_pile, whole_enough}
@@ -54,7 +54,7 @@ module _ (numbered : List ℕ → Option ℕ) (size : ℕ) (a : ℕ → Automato
         planned : map step_of steps ≡ all_steps c.sets f
         planned = are ∙ ap (λ n. all_steps n f) (most_is c.sets few)
 
-        pub read_text : (c' : Control) (tables' : List ℕ) (r : Result (ℕ × ℕ) Fault) → Builds records size a holds steps c tables c' tables' r
+        pub read_text : (c' : Control) (tables' : List ℕ) (r : Result (ℕ × ℕ) Fault) → MakesSteps records size a holds steps c tables c' tables' r
             → ReadsText numbered size a holds records room text c tables c' tables' r
         read_text c' tables' (Ok counts) h =
             let t = terms_of c records size a in

@@ -97,13 +97,13 @@ Counted t holds (f ∷ pile) counts = Count t.sets (SameMet t.sets t.automaton h
 
 -- Where each step finds enough on the pile: all are made, and the tray holds what they make above its tables; or one is refused, and
 -- the tray is as it was.
-abbrev pub Builds : ℕ → ℕ → (ℕ → Automaton) → (ℕ → List ℕ → Type 0) → List Step → Control → List ℕ → Control → List ℕ → Result (ℕ × ℕ) Fault → Type 0
-Builds records size a holds steps c tables c' tables' (Ok counts) =
+abbrev pub MakesSteps : ℕ → ℕ → (ℕ → Automaton) → (ℕ → List ℕ → Type 0) → List Step → Control → List ℕ → Control → List ℕ → Result (ℕ × ℕ) Fault → Type 0
+MakesSteps records size a holds steps c tables c' tables' (Ok counts) =
     Enough 0 (map step_of steps)
     → AllMade (terms_of c records size a) holds c.count [] (map step_of steps)
     × StandsAbove holds c.count c tables c' tables' (pile_after [] (map step_of steps))
     × Counted (terms_of c records size a) holds (pile_after [] (map step_of steps)) counts
-Builds records size a holds steps c tables c' tables' (Err e) =
+MakesSteps records size a holds steps c tables c' tables' (Err e) =
     Enough 0 (map step_of steps)
     → (why : Refusal) × (e.reason ≡ call why)
     × RefusedAt (terms_of c records size a) holds c.count [] (map step_of steps) (number_of why) e.place

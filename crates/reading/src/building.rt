@@ -1,7 +1,7 @@
 //! Making the steps of a claim on a tray.
 ghost use Rattle.std.specs.Prelude.{◌≡◌, ◌≤◌};
 ghost use Rattle.tray.specs.Memory.{SameMemory};
-ghost use Rattle.reading.specs.Stepping.{Steps, Leaves, Builds};
+ghost use Rattle.reading.specs.Stepping.{Steps, Leaves, MakesSteps};
 
 use crate::fault::Fault;
 use books::Book;
@@ -59,7 +59,7 @@ pub(crate) fn build<B: Book, const STATES: usize>(
     work: &mut WorkFor<STATES>,
     steps: &[Step],
 ) -> Result<(usize, usize), Fault>
-    ensures builds { Builds STATES (B.Book.size book.now) (B.Book.automaton book.now) (B.Book.holds book.now) steps.now tray.old.control tray.old.tables.now tray.new.control tray.new.tables.now result }
+    ensures builds { MakesSteps STATES (B.Book.size book.now) (B.Book.automaton book.now) (B.Book.holds book.now) steps.now tray.old.control tray.old.tables.now tray.new.control tray.new.tables.now result }
     ensures owners { SameMemory tray.old tray.new }
 {
     let below = tray.count();

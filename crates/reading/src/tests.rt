@@ -22,10 +22,8 @@ fn answer(sets: usize, budget: usize, depth: usize, text: &[u8]) -> Result<(usiz
     let mut tables = [0u16; 512];
     let mut spare = [0u16; 256];
     let mut tray = Tray::over(&mut tables, &mut spare);
-    match tray.open(sets, budget, depth) {
-        Ok(()) => read_onto(&mut tray, text),
-        Err(why) => Err(refused(why, 0)),
-    }
+    tray.open(sets, budget, depth)?;
+    read_onto(&mut tray, text)
 }
 
 fn refused(why: Refusal, place: usize) -> Fault {
