@@ -3,16 +3,18 @@
 
     python3 tools/robust.py crates/decide/out/decide [COUNT] [--seed N] [--seconds N]
 
-An input is bytes at random, or a right question whose bytes were changed, cut off, repeated or doubled, whose numbers are
-at the limits and past them, or whose text is long or deeply nested. A crash is any exit status but 0 and anything on standard
-error. A wrong answer is any output but the two lines that the rules owe to the input, as tools/rules.py works them out. A hang
-is a run of more than so many seconds. Exit status 1 says that there was one of these. The same seed makes the same inputs."""
+First come fixed inputs with the answers that are owed to them, some of which have no end. Any other input is bytes at random,
+or a right question whose bytes were changed, cut off, repeated or doubled, whose numbers are at the limits and past them, or
+whose text is long or deeply nested. A crash is any exit status but 0 and anything on standard error. A wrong answer is any
+output but the two lines that the rules owe to the input, as tools/rules.py works them out. A hang is a run of more than so many
+seconds. Exit status 1 says that there was one of these. The same seed makes the same inputs."""
 import argparse
 import collections
 import pathlib
 import random
 import subprocess
 import sys
+import threading
 
 sys.dont_write_bytecode = True
 from rules import HEADING, MARKS, owed  # noqa: E402
@@ -166,6 +168,72 @@ KINDS = {at_random: 2, heading_and_bytes: 2, tokens_in_any_order: 2, formulas: 4
          two_as_one: 1, long_text: 3, deep: 3}
 
 
+# ---- Fixed inputs ----
+
+# Next to the longest text, and around the lines: what is owed was worked out by hand.
+FIXED = [
+    (question(b"2", b"8", b"4", b"sub A B".ljust(1024)), "some 2 . 1"),
+    (question(b"2", b"8", b"4", b"sub A B".ljust(1025)), "9 1 0"),
+    (question(b"2", b"8", b"4", b"sub A B".ljust(1100)), "9 1 0"),
+    (question(b"2", b"8", b"4", b"sub A B".rjust(1024)), "some 2 . 1"),
+    (question(b"2", b"8", b"4", b"sub A B".rjust(1025)), "9 1 0"),
+    (question(b"2", b"8", b"4", b"sub A B\n" * 100_000), "9 1 0"),
+    (question(b"02", b"8", b"4", b"sub A B".ljust(1025)), "17 1 0"),
+    (question(b"9", b"8", b"4", b"sub A B".ljust(1025)), "1 3 0"),
+    (question(b"2", b"8", b"4", b"sub A\r B"), "10 1 5"),
+    (question(b"2", b"8", b"4\r", b"sub A B"), "17 1 0"),
+    (HEADING[:-1], "16 1 0"),
+    (HEADING, "17 1 0"),
+    (b"", "16 1 0"),
+]
+
+# The second bytes follow the first without end.
+ENDLESS = [
+    (b"", b"y\n", "16 1 0"),
+    (HEADING, b"1", "17 1 0"),
+    (question(b"2", b"8", b"4", b"sub A B"), b" ", "9 1 0"),
+    (question(b"2", b"8", b"17", b"sub A B"), b"\n", "3 3 0"),
+]
+
+
+def lines_of(values):
+    return ("verdict states witness counter" if values[0].isalpha() else "refusal layer place") + "\n" + values + "\n"
+
+
+def fed_without_end(program, first, more, seconds):
+    """The outcome of a run whose input does not end. A run that wants all of it is stopped."""
+    with subprocess.Popen(program, bufsize=0, stdin=subprocess.PIPE, stdout=subprocess.PIPE, stderr=subprocess.PIPE) as run:
+        stop = threading.Timer(seconds, run.kill)
+        stop.start()
+        try:
+            run.stdin.write(first)
+            while True:
+                run.stdin.write(more * 30_000)
+        except BrokenPipeError:
+            pass
+        output, errors = run.stdout.read(), run.stderr.read()
+        status = run.wait()
+        stop.cancel()
+        return status, output, errors
+
+
+def wrong_at_fixed(program, seconds):
+    """How many of the fixed inputs are answered otherwise than is owed."""
+    wrong = 0
+    for given, values in FIXED:
+        run = subprocess.run(program, input=given, capture_output=True, timeout=seconds)
+        if (run.returncode, run.stdout, run.stderr) != (0, lines_of(values).encode(), b""):
+            wrong += 1
+            print(f"WRONG {given[:60]!r}, {len(given)} bytes: status {run.returncode}, output {run.stdout!r}, owed {values!r}")
+    for first, more, values in ENDLESS:
+        outcome = fed_without_end(program, first, more, seconds)
+        if outcome != (0, lines_of(values).encode(), b""):
+            wrong += 1
+            print(f"WRONG {first!r} and {more!r} without end: {outcome}, owed {values!r}")
+    print(f"{len(FIXED) + len(ENDLESS)} fixed inputs, {len(ENDLESS)} of them without end: wrong {wrong}")
+    return wrong
+
+
 # ---- What comes of them ----
 
 def main():
@@ -178,6 +246,7 @@ def main():
     program = [str(given.program.resolve())]
     rng = random.Random(given.seed)
     right = right_questions()
+    wrong_fixed = wrong_at_fixed(program, given.seconds)
     outcomes, kinds, wrong = collections.Counter(), collections.Counter(), collections.Counter()
     longest = 0
     for _ in range(given.count):
@@ -204,7 +273,7 @@ def main():
     print(f"{given.count} inputs of up to {longest} bytes: " + ", ".join(f"{name} {many}" for name, many in kinds.items()))
     print("outcomes: " + ", ".join(f"{said} {outcomes[said]}" for said in sorted(outcomes, key=lambda said: (len(said), said))))
     print(f"wrong answers: {wrong['wrong answers']}, crashes: {wrong['crashes']}, hangs: {wrong['hangs']}")
-    sys.exit(bool(wrong))
+    sys.exit(bool(wrong or wrong_fixed))
 
 
 if __name__ == "__main__":

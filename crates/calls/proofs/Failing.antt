@@ -10,7 +10,7 @@ never_both [] k p f = f
 never_both (x ∷ rest) k p (inl f) = p.0 f.1
 never_both (x ∷ rest) k p (inr f) = never_both rest k p.1 f.1
 
-one_failed : (checks : List (ℕ × Type 0)) (j k : ℕ) → FirstFailed checks j → FirstFailed checks k → j ≡ k
+pub one_failed : (checks : List (ℕ × Type 0)) (j k : ℕ) → FirstFailed checks j → FirstFailed checks k → j ≡ k
 one_failed [] j k f g = absurd f
 one_failed (x ∷ rest) j k (inl f) (inl g) = f.0 ∙ sym g.0
 one_failed (x ∷ rest) j k (inl f) (inr g) = absurd (g.0 f.1)

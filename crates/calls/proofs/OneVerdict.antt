@@ -12,7 +12,7 @@ use Rattle.calls.proofs.Sameness.{after_equality}
 use Rattle.calls.proofs.OneWord.{one_word}
 
 -- a verdict that is none exactly when A holds, and all exactly when B does
-one_verdict : {A B : Type 0} (v w : Verdict) → (v ≡ NoSets) ↔ A → (v ≡ AllSets) ↔ B → (w ≡ NoSets) ↔ A → (w ≡ AllSets) ↔ B → v ≡ w
+pub one_verdict : {A B : Type 0} (v w : Verdict) → (v ≡ NoSets) ↔ A → (v ≡ AllSets) ↔ B → (w ≡ NoSets) ↔ A → (w ≡ AllSets) ↔ B → v ≡ w
 one_verdict NoSets w none all none' all' = sym (none'.1 (none.0 refl))
 one_verdict AllSets w none all none' all' = sym (all'.1 (all.0 refl))
 one_verdict SomeSets NoSets none all none' all' = none.1 (none'.0 refl)

@@ -16,7 +16,7 @@ pub halves : (j k : ℕ) (b c : List ℕ) → take j b ≡ take k c → drop j b
 halves j k b c front rest = sym (take-append-drop j b) ∙ ap₂ ◌++◌ front rest ∙ take-append-drop k c
 
 module _ (n : ℕ) (Serves : List ℕ → Type 0) where
-  one_earliest : (u w : List ℕ) → Earliest n Serves u → Earliest n Serves w → u ≡ w
+  pub one_earliest : (u w : List ℕ) → Earliest n Serves u → Earliest n Serves w → u ≡ w
   one_earliest u w a b = level u w (a.least w b.columns b.serves) (b.least u a.columns a.serves)
 
   pub one_word : (buffer b c : List ℕ) (r s : Option ℕ) → Written n Serves buffer b r → Written n Serves buffer c s → (r ≡ s) × (b ≡ c)

@@ -56,9 +56,8 @@ fn run(rt: &(impl Print + Input + AllocGlobal)) -> anyhow::Result<()> {
     for line in rt.lines(rt.alloc()) {
         let line = line?;
         let input = input_of(rt.alloc(), line.as_str())?;
-        let mut lines = Vec::new(rt.alloc());
-        decide(&Standard, &input, &mut lines)?;
-        let (_, values) = cut(&lines);
+        let lines = decide(&Standard, &input);
+        let (_, values) = cut(lines.as_slice());
         io::writer(rt).write_all(values)?;
     }
     Ok(())

@@ -2,16 +2,15 @@
 #![tactic(auto)]
 
 use books::Standard;
-use deciding::decide;
+use deciding::{MOST_ASKED, decide};
 use std::io;
 use std::io::{Read, Write};
 
+// No more of the input is read than decides the answer.
 fn run(rt: &(impl Print + Input + AllocGlobal)) -> anyhow::Result<()> {
     let mut input = Vec::new(rt.alloc());
-    rt.reader().read_to_end(&mut input)?;
-    let mut output = Vec::new(rt.alloc());
-    decide(&Standard, &input, &mut output)?;
-    io::writer(rt).write_all(&output)?;
+    rt.reader().take(MOST_ASKED).read_to_end(&mut input)?;
+    io::writer(rt).write_all(decide(&Standard, &input).as_slice())?;
     Ok(())
 }
 

@@ -1,6 +1,7 @@
 -- What is judged of a table is judged of the claim that it tells.
-use Rattle.std.proofs.Common.{◌≡◌, ℕ, ◌-◌, ◌≤◌, ◌↔◌, Bool, true, false, List, [], ◌++◌, take, Some, None, Option, Ok, Err, Result, is_some, Decides, sym, refl, ap, ◌∙◌, subst, arith}
+use Rattle.std.proofs.Common.{◌≡◌, ℕ, ◌-◌, ◌≤◌, ◌↔◌, Bool, true, false, List, [], ◌++◌, take, replicate, Some, None, Option, Ok, Err, Result, is_some, Decides, sym, refl, ap, ◌∙◌, subst, inr, arith}
 use Rattle.std.proofs.lemmas.Bool.{true≢false}
+use Rattle.std.proofs.lemmas.List.{drop-replicate}
 use Rattle.std.proofs.lemmas.Bool.Decides.{same_from_decides}
 use Rattle.words.specs.Automata.{Automaton}
 use Rattle.words.specs.Residuals.{SameResidual, Count}
@@ -12,16 +13,20 @@ use Rattle.judging.specs.Earliest.{Written}
 use Rattle.judging.specs.Judged.{Says, Shown, Judged as JudgedWords}
 use Rattle.judging.specs.declared.verdict.Verdict.{Verdict}
 use Rattle.judging.specs.declared.verdict.Verdict.TheVariants.{NoSets, SomeSets, AllSets}
+use Rattle.tray.specs.Checks.{AllPass}
 use Rattle.tray.specs.View.{says}
 use Rattle.tray.specs.declared.control.Control.{Control}
+use Rattle.calls.specs.declared.running.Settings.{Settings}
 use Rattle.grammar.specs.Claims.{Claim, spelled, Fits}
-use Rattle.reading.specs.Judging.{SameEnds, Shows}
+use Rattle.reading.specs.Judging.{SameEnds, Shows, JudgedClaim}
 use Rattle.reading.specs.Meaning.{Meaning, Satisfied}
-use Rattle.reading.specs.Reading.{ReadsText}
+use Rattle.reading.specs.Reading.{RefusedFor, ReadsText}
 use Rattle.reading.specs.declared.fault.Fault.{Fault}
+use Rattle.reading.specs.declared.fault.Reason.{Reason}
+use Rattle.reading.specs.declared.fault.Reason.TheVariants.{Text, Call}
 use Rattle.reading.proofs.MeaningLaws.{meaning_laws}
 use Rattle.reading.proofs.Whole.{most_is}
-use Rattle.deciding.specs.Answers.{JudgesOn, JudgesTop, Judges}
+use Rattle.deciding.specs.Answers.{opening, opened, StandsAlone, JudgesOn, JudgesText, JudgesTop, Judges}
 use Rattle.deciding.specs.Printed.{word_at}
 use Rattle.deciding.specs.declared.answer.Judged.{Judged}
 
@@ -60,6 +65,11 @@ shows_of n P Q to from old new (Some k) h =
     let e = h.2 in
     record { columns = e.columns; serves = to (take k new) e.columns e.serves; least = λ v cv q. e.least v cv (from v cv q) }
 shows_of n P Q to from old new None h = λ w cw q. h.0 w cw (from w cw q)
+
+-- a word that was written over zeros stands alone
+alone : (n : ℕ) (P : List ℕ → Type 0) (new : List ℕ) (k : Option ℕ) → Written n P (replicate 512 0) new k → StandsAlone new k
+alone n P new (Some k) h = (subst (λ l. k ≤ l) (sym h.1) h.0, h.3 ∙ drop-replicate k 512 0)
+alone n P new None h = h.1
 
 shown_word : (buffer : List ℕ) (k : Option ℕ) → is_some (word_at buffer k) ≡ is_some k
 shown_word buffer (Some k) = refl
@@ -117,10 +127,12 @@ module _ (numbered : List ℕ → Option ℕ) (a : ℕ → Automaton) (holds : �
     unfolding Made
     made_of w cw s = (s.0, s.2)
 
-    pub claim_judged : (L : List ℕ → Bool) → ((w : List ℕ) → Columns n w → Decides (L w) (Satisfied holds f w)) → (met missed : List ℕ) (j : Judged)
-        → JudgedWords n L met missed j.witness j.counterexample j.judgement → Judges n holds f j
+    judged_claim : (L : List ℕ → Bool) → ((w : List ℕ) → Columns n w → Decides (L w) (Satisfied holds f w)) → (met missed : List ℕ) (j : Judged)
+        → JudgedWords n L met missed j.witness j.counterexample j.judgement
+        → JudgedClaim n holds f j.judgement.verdict j.judgement.states (word_at j.witness j.judgement.witness)
+        (word_at j.counterexample j.judgement.counterexample)
     unfolding Made
-    claim_judged L decides met missed j h =
+    judged_claim L decides met missed j h =
         let P = Satisfied holds f in
         let none = says_none n P Made L decides made_of word_of j.judgement.verdict h.verdict in
         let witness = absent_witness j.judgement.verdict j.judgement.witness j.judgement.counterexample h.shown in
@@ -142,24 +154,55 @@ module _ (numbered : List ℕ → Option ℕ) (a : ℕ → Automaton) (holds : �
           );
         }
 
+    pub claim_judged : (L : List ℕ → Bool) → ((w : List ℕ) → Columns n w → Decides (L w) (Satisfied holds f w)) → (j : Judged)
+        → JudgedWords n L (replicate 512 0) (replicate 512 0) j.witness j.counterexample j.judgement → Judges n holds f j
+    claim_judged L decides j h = record {
+      claim = judged_claim L decides (replicate 512 0) (replicate 512 0) j h;
+      witness = alone n (λ w. L w ≡ true) j.witness j.judgement.witness h.witness;
+      counterexample = alone n (λ w. L w ≡ false) j.counterexample j.judgement.counterexample h.counterexample;
+    }
+
 -- ---- after reading a text
 
 module _ (numbered : List ℕ → Option ℕ) (size : ℕ) (a : ℕ → Automaton) (holds : ℕ → List ℕ → Type 0) (text : List ℕ) (c : Control) (tables : List ℕ)
-    (c' : Control) (tables' : List ℕ) (few : c.sets ≤ 8) (room : ℕ) (counts : ℕ × ℕ)
+    (c' : Control) (tables' : List ℕ) (few : c.sets ≤ 8) (counts : ℕ × ℕ)
   where
-    pub judges_on : ReadsText numbered size a holds 64 room text c tables c' tables' (Ok counts) → (r : Result Judged Fault) → JudgesTop c' tables' r
+    pub judges_on : ReadsText numbered size a holds 64 3088 text c tables c' tables' (Ok counts) → (r : Result Judged Fault) → JudgesTop c' tables' r
         → JudgesOn numbered size a holds text c r
     judges_on read (Err e) h = absurd h
     judges_on read (Ok j) h =
         let f : Claim = read.1 in
         let b = read.2 in
         let top : c'.count - 1 ≡ c.count = omega (arith, b.count) in
-        let words : JudgedWords c.sets (says c' tables' c.count) h.0 h.1 j.witness j.counterexample j.judgement =
-        subst (λ k. JudgedWords c.sets (says c' tables' k) h.0 h.1 j.witness j.counterexample j.judgement) top
-        (subst (λ n. JudgedWords n (says c' tables' (c'.count - 1)) h.0 h.1 j.witness j.counterexample j.judgement) b.settings.sets h.2) in (
+        let zeros : List ℕ = replicate 512 0 in
+        let words : JudgedWords c.sets (says c' tables' c.count) zeros zeros j.witness j.counterexample j.judgement =
+        subst (λ k. JudgedWords c.sets (says c' tables' k) zeros zeros j.witness j.counterexample j.judgement) top
+        (subst (λ n. JudgedWords n (says c' tables' (c'.count - 1)) zeros zeros j.witness j.counterexample j.judgement) b.settings.sets h) in (
+          read.0,
           f,
           b.reads,
           b.passes,
           claim_judged numbered a holds c.sets text f b.reads.spells (subst (λ n. Fits n 0 f) (most_is c.sets few) b.reads.fits) (says c' tables' c.count)
-              b.means h.0 h.1 j words,
+              b.means j words,
         )
+
+-- ---- on a tray that was just opened
+
+-- what is said of a text on one tray holds on every tray with the same settings and as many tables
+module _ (numbered : List ℕ → Option ℕ) (size : ℕ) (a : ℕ → Automaton) (holds : ℕ → List ℕ → Type 0) (text : List ℕ) (s : Settings) (c : Control)
+    (sets : c.sets ≡ s.sets) (budget : c.budget ≡ s.budget) (depth : c.depth ≡ s.depth) (none : c.count ≡ 0)
+  where
+    same : record { sets = c.sets; budget = c.budget; depth = c.depth; count = c.count; sizes = replicate 16 0 } ≡ opened s
+    same = λ i. record { sets = sets i; budget = budget i; depth = depth i; count = none i; sizes = replicate 16 0 }
+
+    refused_newly : (r : Reason) (p : ℕ) → RefusedFor numbered size a holds 64 3088 text c r p → RefusedFor numbered size a holds 64 3088 text (opened s) r p
+    refused_newly (Text flaw) p h = subst (λ d. RefusedFor numbered size a holds 64 3088 text d (Text flaw) p) same h
+    refused_newly (Call why) p h = subst (λ d. RefusedFor numbered size a holds 64 3088 text d (Call why) p) same h
+
+    pub judges_newly : (r : Result Judged Fault) → JudgesOn numbered size a holds text c r → JudgesOn numbered size a holds text (opened s) r
+    judges_newly (Ok j) h = subst (λ d. JudgesOn numbered size a holds text d (Ok j)) same h
+    judges_newly (Err e) h = refused_newly e.reason e.place h
+
+    pub judges_text : (r : Result Judged Fault) → AllPass (opening s) → JudgesOn numbered size a holds text c r → JudgesText numbered size a holds s text r
+    judges_text (Ok j) passes h = (passes, judges_newly (Ok j) h)
+    judges_text (Err e) passes h = inr (passes, judges_newly (Err e) h)

@@ -23,10 +23,10 @@ cut_whole (b ∷ text) = cut_either b text (eqb b 10) (cut_whole text)
 cuts_to : (text first rest : List ℕ) → (first, rest) ≡ cut text → text ≡ first ++ rest
 cuts_to text first rest e = sym (cut_whole text) ∙ ap (λ p. p.0 ++ p.1) (sym e)
 
-heading_is_line : IsLine heading
+pub heading_is_line : IsLine heading
 heading_is_line = line_from (codes "sets budget depth") (tested_above (codes "sets budget depth") refl)
 
-values_line : (vs : List ℕ) → IsLine (line_of (map decimal vs))
+pub values_line : (vs : List ℕ) → IsLine (line_of (map decimal vs))
 values_line vs = line_from (spaced (map decimal vs)) (numbers_above vs)
 
 -- a text that begins with a line is cut behind it

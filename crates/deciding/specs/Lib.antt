@@ -1,3 +1,4 @@
 pub mod Questions
 pub mod Printed
 pub mod Answers
+pub mod AnswerLaws

@@ -1,5 +1,5 @@
 -- What is printed of an answer.
-use Rattle.std.specs.Prelude.{ℕ, List, [], ◌∷◌, ◌++◌, codes, decimal, take, Some, None, Option}
+use Rattle.std.specs.Prelude.{◌≡◌, ℕ, ◌≤◌, List, [], ◌∷◌, ◌++◌, codes, decimal, take, length, Some, None, Option}
 use Rattle.std.specs.List.{flat_map}
 use Rattle.saving.specs.TableText.{line_of}
 use Rattle.judging.specs.declared.verdict.Verdict.{Verdict}
@@ -37,3 +37,8 @@ judged_text j =
 abbrev pub answer_text : Answer → List ℕ
 answer_text (Refused number layer place) = two_lines (codes "refusal layer place") (decimal number ∷ decimal layer ∷ decimal place ∷ [])
 answer_text (Judged j) = judged_text j
+
+-- A piece of so many bytes at most was put behind what was written, as much of it as 4,153 bytes have room for.
+pub record Puts (most : ℕ) (piece old new : List ℕ) : Type 0 where
+  pub laid : new ≡ take 4153 (old ++ piece)
+  pub short : length piece ≤ most

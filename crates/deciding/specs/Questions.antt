@@ -26,3 +26,8 @@ abbrev pub Asked : List ℕ → Result Question Unread → Type 0
 Asked input (Ok q) = Asks input q.settings q.text.now
 Asked input (Err Heading) = OtherHeading input
 Asked input (Err Values) = OtherValues input
+
+-- the number of each; it is found at no place of the text, which counts as place 0
+abbrev pub unread_number : Unread → ℕ
+unread_number Heading = 16
+unread_number Values = 17

@@ -4,7 +4,7 @@ use judging::Judgement;
 /// The most states that a table can have; the words of a judgement are shorter.
 pub(crate) const MOST_STATES: usize = 512;
 
-/// A judgement with its two words, each at the front of its bytes.
+/// A judgement with its two words, each at the front of its bytes, and 0 behind it.
 #[derive(Clone, Copy)]
 pub struct Judged {
     pub judgement: Judgement,

@@ -1,17 +1,15 @@
 //! Deciding a claim on a tray of its own.
-ghost use Rattle.std.specs.Prelude.{◌≡◌, ◌≤◌, ◌++◌, IfOk};
+ghost use Rattle.std.specs.Prelude.{◌≤◌};
 ghost use Rattle.tray.specs.Memory.{SameMemory};
-ghost use Rattle.deciding.specs.Answers.{Answers, Decides, Opened, JudgesText, JudgesOn, JudgesTop};
-ghost use Rattle.deciding.specs.Printed.{answer_text};
+ghost use Rattle.deciding.specs.Answers.{Answers, Prints, JudgesText, JudgesOn, JudgesTop};
 
 use crate::answer::{Answer, Judged, MOST_STATES};
-use crate::printing::put_answer;
-use crate::question::{Question, Unread, read_question};
+use crate::printing::{Lines, lines_of};
+use crate::question::{Question, read_question};
 use books::NamedBook;
 use calls::{Settings, WorkFor};
 use grammar::{Build, Step};
 use reading::{Fault, Reason, read};
-use std::alloc::AllocError;
 use tray::Tray;
 
 // Memory for 4 sets, a budget of 64 states and a depth of 8 tables: ten slots of 64 rows of 17 numbers.
@@ -82,14 +80,9 @@ pub fn answer_to<B: NamedBook>(book: &B, input: &[u8]) -> Answer
     ensures { Answers (B.NamedBook.numbered book.now) (B.Book.size book.now) (B.Book.automaton book.now) (B.Book.holds book.now) input.now result }
 {
     match read_question(input) {
-        Err(Unread::Heading) => Answer::Refused {
-            number: 16,
-            layer: 1,
-            place: 0,
-        },
-        Err(Unread::Values) => Answer::Refused {
-            number: 17,
-            layer: 1,
+        Err(why) => Answer::Refused {
+            number: why.number(),
+            layer: why.layer(),
             place: 0,
         },
         Ok(Question { settings, text }) => match judge_text(book, settings, text) {
@@ -103,9 +96,9 @@ pub fn answer_to<B: NamedBook>(book: &B, input: &[u8]) -> Answer
     }
 }
 
-/// Adds the two lines that answer a question. Only memory for them can be lacking.
-pub fn decide<B: NamedBook>(book: &B, input: &[u8], out: &mut Vec<u8>) -> Result<(), AllocError>
-    ensures { IfOk result (λ _. Decides (B.NamedBook.numbered book.now) (B.Book.size book.now) (B.Book.automaton book.now) (B.Book.holds book.now) input.now out.old.items out.new.items) }
+/// The two lines that answer a question.
+pub fn decide<B: NamedBook>(book: &B, input: &[u8]) -> Lines
+    ensures { Prints (B.NamedBook.numbered book.now) (B.Book.size book.now) (B.Book.automaton book.now) (B.Book.holds book.now) input.now result.items }
 {
-    put_answer(out, &answer_to(book, input))
+    lines_of(&answer_to(book, input))
 }

@@ -1,67 +1,85 @@
-//! The two lines of an answer.
-ghost use Rattle.std.specs.Prelude.{◌≡◌, ◌++◌, Some, codes, decimal, IfOk};
-ghost use Rattle.deciding.specs.Printed.{verdict_name, word_text, word_at, judged_text, answer_text};
+//! The two lines of an answer, in memory that is long enough for every answer.
+ghost use Rattle.std.specs.Prelude.{◌≡◌, ◌≤◌, ◌++◌, Some, codes, decimal, length};
+ghost use Rattle.deciding.specs.Printed.{verdict_name, word_text, word_at, judged_text, answer_text, Puts};
 ghost use Rattle.deciding.specs.declared.answer.Answer.TheVariants.{Refused};
 
-use crate::answer::{Answer, Judged};
+use crate::answer::{Answer, Judged, MOST_STATES};
+use arrayvec::ArrayVec;
 use judging::Verdict;
-use std::alloc::AllocError;
 
-// Adds a number in decimal.
-fn put_number(out: &mut Vec<u8>, number: usize) -> Result<(), AllocError>
-    ensures { IfOk result (λ _. out.new.items ≡ out.old.items ++ decimal number) }
+// The longest lines are those of a judgement: 31 bytes of names, four of a verdict, twenty of a number of 64 bits, two words
+// of 512 columns with three digits each and the commas between them, which are 2,047 bytes, three blanks and a line feed.
+const MOST_BYTES: usize = 4_153;
+
+/// The two lines of an answer.
+pub type Lines = ArrayVec<u8, MOST_BYTES>;
+
+// Puts bytes behind the others, as many as there is room for.
+fn put(lines: &mut Lines, piece: &[u8])
+    ensures { Puts (length piece.now) piece.now lines.old.items lines.new.items }
 {
-    out.extend_from_slice(itoa::Buffer::new().format(number).as_bytes())
+    let room = lines.remaining_capacity().min(piece.len());
+    let _fits = lines.try_extend_from_slice(&piece[..room]);
 }
 
-// Adds one column behind the first.
-fn put_next(out: &mut Vec<u8>, column: u8) -> Result<(), AllocError>
-    ensures { IfOk result (λ _. out.new.items ≡ out.old.items ++ (codes "," ++ decimal column)) }
+// Puts a number in decimal.
+fn put_number(lines: &mut Lines, number: usize)
+    ensures { Puts 20 (decimal number) lines.old.items lines.new.items }
 {
-    out.push(b',')?;
-    put_number(out, usize::from(column))
+    put(lines, itoa::Buffer::new().format(number).as_bytes());
 }
 
-// Adds the columns of a word, joined by commas; a point for the empty word.
-fn put_columns(out: &mut Vec<u8>, columns: &[u8]) -> Result<(), AllocError>
-    ensures { IfOk result (λ _. out.new.items ≡ out.old.items ++ word_text (Some columns.now)) }
+// Puts one column of a word in decimal.
+fn put_column(lines: &mut Lines, column: u8)
+    ensures { Puts 3 (decimal column) lines.old.items lines.new.items }
+{
+    put(lines, itoa::Buffer::new().format(column).as_bytes());
+}
+
+// Puts one column behind the first.
+fn put_next(lines: &mut Lines, column: u8)
+    ensures { Puts 4 (codes "," ++ decimal column) lines.old.items lines.new.items }
+{
+    put(lines, b",");
+    put_column(lines, column);
+}
+
+// Puts the columns of a word, joined by commas; a point for the empty word.
+fn put_columns(lines: &mut Lines, columns: &[u8])
+    requires { length columns.now ≤ 512 }
+    ensures { Puts 2047 (word_text (Some columns.now)) lines.old.items lines.new.items }
 {
     let Some((first, rest)) = columns.split_first() else {
-        out.push(b'.')?;
-        return Ok(());
+        put(lines, b".");
+        return;
     };
-    put_number(out, usize::from(*first))?;
+    put_column(lines, *first);
     for column in rest {
-        put_next(out, *column)?;
+        put_next(lines, *column);
     }
-    Ok(())
 }
 
-// Adds the word of this length at the front of a buffer, or a dash where it is absent.
-fn put_word(out: &mut Vec<u8>, buffer: &[u8], length: Option<usize>) -> Result<(), AllocError>
-    ensures { IfOk result (λ _. out.new.items ≡ out.old.items ++ word_text (word_at buffer.now length)) }
+// Puts the word of this length at the front of its bytes, or a dash where it is absent.
+fn put_word(lines: &mut Lines, bytes: &[u8; MOST_STATES], length: Option<usize>)
+    ensures { Puts 2047 (word_text (word_at bytes.now length)) lines.old.items lines.new.items }
 {
     match length {
-        Some(length) => put_columns(out, &buffer[..length.min(buffer.len())]),
-        None => {
-            out.push(b'-')?;
-            Ok(())
-        }
+        Some(length) => put_columns(lines, &bytes[..length.min(MOST_STATES)]),
+        None => put(lines, b"-"),
     }
 }
 
-// Adds the lines of a refusal.
-fn put_refusal(out: &mut Vec<u8>, number: u8, layer: u8, place: usize) -> Result<(), AllocError>
-    ensures { IfOk result (λ _. out.new.items ≡ out.old.items ++ answer_text (Refused number layer place)) }
+// Puts the lines of a refusal.
+fn put_refusal(lines: &mut Lines, number: u8, layer: u8, place: usize)
+    ensures { Puts 4153 (answer_text (Refused number layer place)) lines.old.items lines.new.items }
 {
-    out.extend_from_slice(b"refusal layer place\n")?;
-    put_number(out, usize::from(number))?;
-    out.push(b' ')?;
-    put_number(out, usize::from(layer))?;
-    out.push(b' ')?;
-    put_number(out, place)?;
-    out.push(b'\n')?;
-    Ok(())
+    put(lines, b"refusal layer place\n");
+    put_number(lines, usize::from(number));
+    put(lines, b" ");
+    put_number(lines, usize::from(layer));
+    put(lines, b" ");
+    put_number(lines, place);
+    put(lines, b"\n");
 }
 
 fn verdict_name(verdict: Verdict) -> &'static [u8]
@@ -74,33 +92,34 @@ fn verdict_name(verdict: Verdict) -> &'static [u8]
     }
 }
 
-// Adds the lines of a judgement.
-fn put_judged(out: &mut Vec<u8>, judged: &Judged) -> Result<(), AllocError>
-    ensures { IfOk result (λ _. out.new.items ≡ out.old.items ++ judged_text judged.now) }
+// Puts the lines of a judgement.
+fn put_judged(lines: &mut Lines, judged: &Judged)
+    ensures { Puts 4153 (judged_text judged.now) lines.old.items lines.new.items }
 {
     let judgement = judged.judgement;
-    out.extend_from_slice(b"verdict states witness counter\n")?;
-    out.extend_from_slice(verdict_name(judgement.verdict))?;
-    out.push(b' ')?;
-    put_number(out, judgement.states)?;
-    out.push(b' ')?;
-    put_word(out, &judged.witness, judgement.witness)?;
-    out.push(b' ')?;
-    put_word(out, &judged.counterexample, judgement.counterexample)?;
-    out.push(b'\n')?;
-    Ok(())
+    put(lines, b"verdict states witness counter\n");
+    put(lines, verdict_name(judgement.verdict));
+    put(lines, b" ");
+    put_number(lines, judgement.states);
+    put(lines, b" ");
+    put_word(lines, &judged.witness, judgement.witness);
+    put(lines, b" ");
+    put_word(lines, &judged.counterexample, judgement.counterexample);
+    put(lines, b"\n");
 }
 
-/// Adds the two lines of an answer.
-pub(crate) fn put_answer(out: &mut Vec<u8>, answer: &Answer) -> Result<(), AllocError>
-    ensures { IfOk result (λ _. out.new.items ≡ out.old.items ++ answer_text answer.now) }
+/// The two lines of an answer. They always fit.
+pub(crate) fn lines_of(answer: &Answer) -> Lines
+    ensures { result.items ≡ answer_text answer.now }
 {
+    let mut lines = Lines::new();
     match answer {
         Answer::Refused {
             number,
             layer,
             place,
-        } => put_refusal(out, *number, *layer, *place),
-        Answer::Judged(judged) => put_judged(out, judged),
+        } => put_refusal(&mut lines, *number, *layer, *place),
+        Answer::Judged(judged) => put_judged(&mut lines, judged),
     }
+    lines
 }

@@ -1,9 +1,14 @@
 //! Reading a question: the settings of a tray, and a claim's text.
 ghost use Rattle.std.specs.Prelude.{◌≡◌, Decides};
 ghost use Rattle.deciding.specs.Questions.{heading, Asked};
+ghost use Rattle.checks.specs.Layers.{layer_of};
 
 use calls::Settings;
+use checks::layer_of;
 use loading::{cut, read_numbers};
+
+/// No byte behind these changes an answer: two lines of at most 18 bytes, and a text that is too long.
+pub const MOST_ASKED: u64 = 1_061;
 
 // The first line of a question.
 const HEADING: &[u8] = b"sets budget depth\n";
@@ -22,6 +27,27 @@ pub enum Unread {
 pub struct Question<'i> {
     pub settings: Settings,
     pub text: &'i [u8],
+}
+
+impl Unread {
+    ghost use Rattle.deciding.specs.Questions.{unread_number};
+
+    /// The number of the check that failed. Its place is 0.
+    pub fn number(self) -> u8
+        ensures { result ≡ unread_number self }
+    {
+        match self {
+            Unread::Heading => 16,
+            Unread::Values => 17,
+        }
+    }
+
+    /// The layer of the check.
+    pub fn layer(self) -> u8
+        ensures { result ≡ layer_of (unread_number self) }
+    {
+        layer_of(self.number())
+    }
 }
 
 // Whether a line is the first line of a question.

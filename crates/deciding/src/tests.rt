@@ -4,10 +4,8 @@ use books::Standard;
 use std::alloc::{AllocError, Global};
 
 // Whether a question is answered by these lines. It promises nothing, so that what a test does stays small for the prover.
-fn says(alloc: Global, input: &[u8], lines: &[u8]) -> Result<bool, AllocError> {
-    let mut out = Vec::new(alloc);
-    decide(&Standard, input, &mut out)?;
-    Ok(out.as_slice() == lines)
+fn says(input: &[u8], lines: &[u8]) -> bool {
+    decide(&Standard, input).as_slice() == lines
 }
 
 // Whether a text over so many sets, with a budget of 64 and a depth of 8, is judged so.
@@ -21,7 +19,7 @@ fn judged(alloc: Global, sets: &[u8], text: &[u8], values: &[u8]) -> Result<bool
     lines.extend_from_slice(b"verdict states witness counter\n")?;
     lines.extend_from_slice(values)?;
     lines.push(b'\n')?;
-    says(alloc, &input, &lines)
+    Ok(says(&input, &lines))
 }
 
 // Whether a question is refused so.
@@ -30,7 +28,7 @@ fn refused(alloc: Global, input: &[u8], values: &[u8]) -> Result<bool, AllocErro
     lines.extend_from_slice(b"refusal layer place\n")?;
     lines.extend_from_slice(values)?;
     lines.push(b'\n')?;
-    says(alloc, input, &lines)
+    Ok(says(input, &lines))
 }
 
 #[test]
@@ -64,10 +62,9 @@ fn a_last_line_feed(rt: HostRuntime) -> Result<(), AllocError> {
     let alloc = rt.alloc();
     assert_eq!(rt;
         says(
-            alloc,
             b"sets budget depth\n2 8 4\nsub A B\n",
             b"verdict states witness counter\nsome 2 . 1\n",
-        )?,
+        ),
         true
     );
     assert_eq!(rt;
@@ -129,10 +126,9 @@ fn settings(rt: HostRuntime) -> Result<(), AllocError> {
     );
     assert_eq!(rt;
         says(
-            alloc,
             b"sets budget depth\n5 32 8\none A",
             b"verdict states witness counter\nsome 3 1 .\n",
-        )?,
+        ),
         true
     );
     Ok(())
@@ -152,10 +148,9 @@ fn budgets(rt: HostRuntime) -> Result<(), AllocError> {
     );
     assert_eq!(rt;
         says(
-            alloc,
             b"sets budget depth\n1 3 4\none A",
             b"verdict states witness counter\nsome 3 1 .\n",
-        )?,
+        ),
         true
     );
     Ok(())
@@ -184,5 +179,43 @@ fn faults_of_texts(rt: HostRuntime) -> Result<(), AllocError> {
         refused(alloc, b"sets budget depth\n3 8 1\n& one A one B", b"21 3 8")?,
         true
     );
+    Ok(())
+}
+
+// The text `sub A B` with blanks behind it, of so many bytes in all.
+fn padded(alloc: Global, bytes: usize) -> Result<Vec<u8>, AllocError> {
+    let mut input = Vec::new(alloc);
+    input.extend_from_slice(b"sets budget depth\n2 8 4\n")?;
+    let mut text = Vec::new(alloc);
+    text.extend_from_slice(b"sub A B")?;
+    text.resize(bytes, b' ')?;
+    input.extend_from_slice(&text)?;
+    Ok(input)
+}
+
+// A text of 1,024 bytes is judged, and one of 1,025 is too long, also where only blanks are too many.
+#[test]
+fn the_longest_text(rt: HostRuntime) -> Result<(), AllocError> {
+    let alloc = rt.alloc();
+    let longest = padded(alloc, 1024)?;
+    assert!(rt; matches!(answer_to(&Standard, &longest), Answer::Judged(_)));
+    assert_eq!(rt;
+        says(&longest, b"verdict states witness counter\nsome 2 . 1\n"),
+        true
+    );
+    let longer = padded(alloc, 1025)?;
+    assert!(rt;
+        matches!(
+            answer_to(&Standard, &longer),
+            Answer::Refused {
+                number: 9,
+                layer: 1,
+                place: 0
+            }
+        )
+    );
+    assert_eq!(rt; refused(alloc, &longer, b"9 1 0")?, true);
+    let much_longer = padded(alloc, 9000)?;
+    assert_eq!(rt; refused(alloc, &much_longer, b"9 1 0")?, true);
     Ok(())
 }

@@ -1,11 +1,10 @@
 //! A tray, and the memory that is lent to its calls.
 ghost use Rattle.std.specs.Prelude.{◌≡◌, IfOk, take};
-ghost use Rattle.deciding.specs.Answers.{Opened};
 ghost use Rattle.books.specs.Standard.{count, automaton, holds};
 ghost use Rattle.calls.specs.Buffers.{held};
 ghost use Rattle.calls.specs.Lent.{lent_for};
 ghost use Rattle.calls.specs.Making.{Makes};
-ghost use Rattle.explain.specs.Shown.{Shows};
+ghost use Rattle.explain.specs.Shown.{Opened, Shows};
 ghost use Rattle.explain.specs.Asked.{Asks, few_places};
 
 use books::Standard;

@@ -19,14 +19,15 @@ impl fmt::Display for Sentence {
 
 /// Prints why a question is not read.
 pub fn tell_unread(rt: &impl Print, why: Unread) -> io::Result<()> {
-    match why {
-        Unread::Heading => {
-            println!(rt; "refused (16, layer 1): the first line is not `sets budget depth`")
-        }
-        Unread::Values => println!(rt;
-            "refused (17, layer 1): the second line is not three numbers up to 65,535, one space apart"
-        ),
-    }
+    let sentence = match why {
+        Unread::Heading => "the first line is not `sets budget depth`",
+        Unread::Values => { "the second line is not three numbers up to 65,535, one space apart" }
+    };
+    println!(rt;
+        "refused ({}, layer {}): {sentence}",
+        why.number(),
+        why.layer()
+    )
 }
 
 /// Prints why something is refused, whatever the text is.

@@ -14,7 +14,7 @@ mod naming;
 
 use crate::account::tell_claim;
 use crate::fault::tell_unread;
-use deciding::read_question;
+use deciding::{MOST_ASKED, read_question};
 use std::env;
 use std::io::Read;
 use std::rt::Env;
@@ -22,7 +22,7 @@ use std::rt::Env;
 fn run(rt: &(impl Print + Input + Env + AllocGlobal)) -> anyhow::Result<()> {
     let graph = env::args(rt)?.any(|word| word.as_str() == "dot");
     let mut input = Vec::new(rt.alloc());
-    rt.reader().read_to_end(&mut input)?;
+    rt.reader().take(MOST_ASKED).read_to_end(&mut input)?;
     match read_question(&input) {
         Ok(question) => tell_claim(rt, question, graph),
         Err(why) => {

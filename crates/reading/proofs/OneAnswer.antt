@@ -48,10 +48,21 @@ module _ (t : Terms) (holds : ℕ → List ℕ → Type 0) (below : ℕ) where
   not_made pile (step ∷ steps) number at made (inl x) = never_both (checks t holds below pile step.1) number made.0 x.0
   not_made pile (step ∷ steps) number at made (inr x) = not_made (puts step.1 pile) steps number at made.1 x.1
 
+-- words with the same ends count as one
+pub ends_equality : (n : ℕ) (P : List ℕ → Type 0) → Equality (SameEnds n P)
+ends_equality n P = record {
+  itself = λ u v cv. ((λ x. x), (λ x. x));
+  back = λ u w same v cv. ((same v cv).1, (same v cv).0);
+  chain = λ u w z first second v cv. (
+    (λ x. (second v cv).0 ((first v cv).0 x)),
+    (λ x. (first v cv).1 ((second v cv).1 x)),
+  );
+}
+
 -- ---- of a text
 
 module _ (numbered : List ℕ → Option ℕ) (size : ℕ) (a : ℕ → Automaton) (holds : ℕ → List ℕ → Type 0) (records room : ℕ) (text : List ℕ) (c : Control) where
-  same_claim : (f g : Claim) → ReadsAs numbered a c.sets text f → ReadsAs numbered a c.sets text g → f ≡ g
+  pub same_claim : (f g : Claim) → ReadsAs numbered a c.sets text f → ReadsAs numbered a c.sets text g → f ≡ g
   same_claim f g x y = one_claim (items_of numbered a text) f g x.spells y.spells
 
   same_flaw : (x y : Flaw × ℕ) → Some x ≡ Some y → x ≡ y
@@ -78,16 +89,6 @@ module _ (numbered : List ℕ → Option ℕ) (size : ℕ) (a : ℕ → Automato
       let moved = subst (λ g. AllMade t holds c.count [] (all_steps c.sets g)) (same_claim f x.1 reads x.2) made in
       not_made t holds c.count [] (all_steps c.sets x.1) (number_of why) p moved x.3
 
-  ends_equality : (P : List ℕ → Type 0) → Equality (SameEnds c.sets P)
-  ends_equality P = record {
-    itself = λ u v cv. ((λ x. x), (λ x. x));
-    back = λ u w same v cv. ((same v cv).1, (same v cv).0);
-    chain = λ u w z first second v cv. (
-      (λ x. (second v cv).0 ((first v cv).0 x)),
-      (λ x. (first v cv).1 ((second v cv).1 x)),
-    );
-  }
-
   module _ (tables : List ℕ) (c1 : Control) (tables1 : List ℕ) (c2 : Control) (tables2 : List ℕ) where
     one_answer : (r s : Result (ℕ × ℕ) Fault) → ReadsText numbered size a holds records room text c tables c1 tables1 r
         → ReadsText numbered size a holds records room text c tables c2 tables2 s → r ≡ s
@@ -97,7 +98,7 @@ module _ (numbered : List ℕ → Option ℕ) (size : ℕ) (a : ℕ → Automato
         let Met = SameMet c.sets a holds (whole c.sets f) in
         let Kept = SameEnds c.sets (Satisfied holds f) in
         let met : j.0 ≡ k.0 = one_count c.sets Met (met_equality c.sets a holds (whole c.sets f)) j.0 k.0 x.2.met other.met in
-        let kept : j.1 ≡ k.1 = one_count c.sets Kept (ends_equality (Satisfied holds f)) j.1 k.1 x.2.kept other.kept in
+        let kept : j.1 ≡ k.1 = one_count c.sets Kept (ends_equality c.sets (Satisfied holds f)) j.1 k.1 x.2.kept other.kept in
         λ i. Ok (met i, kept i)
     one_answer (Ok j) (Err e) x y = absurd (refused_not_made e.reason e.place x.1 y.0 x.0 x.2.reads x.2.passes)
     one_answer (Err e) (Ok k) x y = absurd (refused_not_made e.reason e.place y.1 x.0 y.0 y.2.reads y.2.passes)
