@@ -1,5 +1,5 @@
 -- Three bytes that are lower-case letters are a name.
-use Rattle.std.proofs.Common.{◌≡◌, ℕ, suc, ◌<◌, ◌≤◌, List, [], ◌∷◌, length, get_or, refl, arith}
+use Rattle.std.proofs.Common.{◌≡◌, ℕ, suc, ◌<◌, ◌≤◌, List, [], ◌∷◌, length, get_or, arith}
 use Rattle.books.specs.Names.{Letters, IsName}
 
 letters_of : (bytes : List ℕ) → ((i : ℕ) → i < length bytes → (97 ≤ get_or bytes i 0) × (get_or bytes i 0 ≤ 122)) → Letters bytes
@@ -8,11 +8,3 @@ letters_of (b ∷ bytes) each = ((each 0 (omega arith)).0, (each 0 (omega arith)
 
 pub is_name : (bytes : List ℕ) → length bytes ≡ 3 → ((i : ℕ) → i < 3 → (97 ≤ get_or bytes i 0) × (get_or bytes i 0 ≤ 122)) → IsName bytes
 is_name bytes long each = (long, letters_of bytes (λ i h. each i (omega arith)))
-
--- three bytes one by one
-pub three_bytes : (bytes : List ℕ) → length bytes ≡ 3 → get_or bytes 0 0 ∷ (get_or bytes 1 0 ∷ (get_or bytes 2 0 ∷ [])) ≡ bytes
-three_bytes [] long = absurd (omega arith)
-three_bytes (a ∷ []) long = absurd (omega arith)
-three_bytes (a ∷ (b ∷ [])) long = absurd (omega arith)
-three_bytes (a ∷ (b ∷ (c ∷ []))) long = refl
-three_bytes (a ∷ (b ∷ (c ∷ (d ∷ bytes)))) long = absurd (omega arith)

@@ -15,3 +15,4 @@ pub mod SameText
 pub mod Small
 pub mod Accepting
 pub mod NeverRefused
+pub mod FaultLines

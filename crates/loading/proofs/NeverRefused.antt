@@ -28,7 +28,7 @@ use Rattle.loading.proofs.Rewritten.{row_within, row_long, same_places}
 
 -- ---- rows keep the length of the memory
 
-length_kept : (d : Draft) (memory : List ℕ) (lines : List (List ℕ)) (e : Draft) (m : List ℕ) → Takes d memory lines e m → length m ≡ length memory
+pub length_kept : (d : Draft) (memory : List ℕ) (lines : List (List ℕ)) (e : Draft) (m : List ℕ) → Takes d memory lines e m → length m ≡ length memory
 length_kept d memory [] e m taken = ap length taken.1
 length_kept d memory (line ∷ lines) e m taken =
     let row = taken.2 in

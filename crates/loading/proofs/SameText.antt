@@ -46,37 +46,37 @@ row_text : (a : Automaton) (s : ℕ) → row_line a s ≡ line_of (map decimal (
 unfolding row_line
 row_text a s = refl
 
-pub same_text_rows : (n k size states : ℕ) (rows cells : List ℕ) → size < 2 ^ 64
-    → ((x : ℕ) → get_or rows x 0 < 2 ^ 64) → ((x : ℕ) → get_or cells x 0 < 2 ^ 64)
-    → table_text n size rows ≡ table_text k states cells
-    → (n ≡ k) × (size ≡ states) × ((s : ℕ) → s < size → row_values (written n size rows) s ≡ row_values (written k states cells) s)
-same_text_rows n k size states rows cells low small small' same = (same_names n k parts.0, sizes, each)
-  where
-    a : Automaton
-    a = written n size rows
+module _ (n k size states : ℕ) (rows cells : List ℕ) (same : table_text n size rows ≡ table_text k states cells) where
+  abbrev a : Automaton
+  a = written n size rows
 
-    b : Automaton
-    b = written k states cells
+  abbrev b : Automaton
+  b = written k states cells
 
-    parts : (names_line n ≡ names_line k) × (flat_map (row_line a) (numbers size) ≡ flat_map (row_line b) (numbers states))
-    parts =
-        same_first (names_line n) (names_line k) (flat_map (row_line a) (numbers size)) (flat_map (row_line b) (numbers states))
-        (names_are_line n) (names_are_line k) (sym (table_text_is n size rows) ∙ same ∙ table_text_is k states cells)
+  parts : (names_line n ≡ names_line k) × (flat_map (row_line a) (numbers size) ≡ flat_map (row_line b) (numbers states))
+  parts =
+      same_first (names_line n) (names_line k) (flat_map (row_line a) (numbers size)) (flat_map (row_line b) (numbers states))
+      (names_are_line n) (names_are_line k) (sym (table_text_is n size rows) ∙ same ∙ table_text_is k states cells)
 
-    lines : map (row_line a) (numbers size) ≡ map (row_line b) (numbers states)
-    lines = same_lines (row_line a) (row_line b) (row_is_line a) (row_is_line b) (numbers size) (numbers states) parts.1
+  lines : map (row_line a) (numbers size) ≡ map (row_line b) (numbers states)
+  lines = same_lines (row_line a) (row_line b) (row_is_line a) (row_is_line b) (numbers size) (numbers states) parts.1
 
-    sizes : size ≡ states
-    sizes =
-        sym (length_numbers size) ∙ sym (length-map (numbers size) (row_line a)) ∙ ap length lines ∙ length-map (numbers states) (row_line b)
-        ∙ length_numbers states
+  -- as many lines, as many states
+  pub same_states : size ≡ states
+  same_states =
+      sym (length_numbers size) ∙ sym (length-map (numbers size) (row_line a)) ∙ ap length lines ∙ length-map (numbers states) (row_line b)
+      ∙ length_numbers states
 
-    each : (s : ℕ) → s < size → row_values a s ≡ row_values b s
-    each s h =
-        let fits : s < 2 ^ 64 = omega (arith, h, low) in
-        let line = same_each (row_line a) (row_line b) size (lines ∙ ap (λ j. map (row_line b) (numbers j)) (sym sizes)) s h in
-        same_values s s (drop 1 (row_values a s)) (drop 1 (row_values b s))
-        (small_values n size rows small s fits) (small_values k states cells small' s fits) (sym (row_text a s) ∙ line ∙ row_text b s)
+  pub same_text_rows : size < 2 ^ 64 → ((x : ℕ) → get_or rows x 0 < 2 ^ 64) → ((x : ℕ) → get_or cells x 0 < 2 ^ 64)
+      → (n ≡ k) × (size ≡ states) × ((s : ℕ) → s < size → row_values (written n size rows) s ≡ row_values (written k states cells) s)
+  same_text_rows low small small' = (same_names n k parts.0, same_states, each)
+    where
+      each : (s : ℕ) → s < size → row_values a s ≡ row_values b s
+      each s h =
+          let fits : s < 2 ^ 64 = omega (arith, h, low) in
+          let line = same_each (row_line a) (row_line b) size (lines ∙ ap (λ j. map (row_line b) (numbers j)) (sym same_states)) s h in
+          same_values s s (drop 1 (row_values a s)) (drop 1 (row_values b s))
+          (small_values n size rows small s fits) (small_values k states cells small' s fits) (sym (row_text a s) ∙ line ∙ row_text b s)
 
 -- ---- the automaton: outside of the rows every answer is 0 or no
 
@@ -131,7 +131,7 @@ pub same_text_automaton : (n k size states : ℕ) (rows cells : List ℕ) → si
     → ((x : ℕ) → get_or rows x 0 < 2 ^ 64) → ((x : ℕ) → get_or cells x 0 < 2 ^ 64)
     → table_text n size rows ≡ table_text k states cells → written n size rows ≡ written k states cells
 same_text_automaton n k size states rows cells low small small' same =
-    let found = same_text_rows n k size states rows cells low small small' same in
+    let found = same_text_rows n k size states rows cells same low small small' in
     let other : written k states cells ≡ written n size cells = ap₂ (λ j m. written j m cells) (sym found.0) (sym found.1) in
     one_automaton n size rows cells (λ s h. found.2 s h ∙ ap (λ a. row_values a s) other) ∙ sym other
 

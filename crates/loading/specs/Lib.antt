@@ -6,4 +6,5 @@ pub mod LoadedRule
 pub mod Sealing
 pub mod Cutting
 pub mod Whole
+pub mod Faults
 pub mod Rowwise

@@ -3,6 +3,7 @@ use Rattle.std.specs.Prelude.{◌≡◌, ℕ, true, List, [], ◌∷◌, min, Op
 use Rattle.words.specs.Automata.{Automaton, accepted}
 use Rattle.words.specs.Rows.{written}
 use Rattle.words.specs.Words.{Columns, sets}
+use Rattle.saving.specs.TableText.{table_text}
 use Rattle.books.specs.Names.{place_of}
 use Rattle.loading.specs.declared.loaded.Loaded.{Loaded}
 
@@ -26,3 +27,7 @@ names b = slice_index_or ([] ∷ (b.name ∷ []) ∷ []) (size b) []
 
 abbrev pub numbered : Loaded → List ℕ → Option ℕ
 numbered b name = place_of name (names b)
+
+-- the text of its rows
+abbrev pub text_of : Loaded → List ℕ
+text_of b = table_text b.places b.states b.cells

@@ -33,7 +33,7 @@ coded_same k u w e =
     get_or-map-range_with_len (λ j. coded j u) 0 k i i 0 h (omega arith) ∙ e i h ∙ sym (get_or-map-range_with_len (λ j. coded j w) 0 k i i 0 h (omega arith)))
 
 -- columns below 2^k with the same bits below k are the same
-same_column : (k c d : ℕ) → c < 2 ^ k → d < 2 ^ k → ((i : ℕ) → i < k → bit i c ≡ bit i d) → c ≡ d
+pub same_column : (k c d : ℕ) → c < 2 ^ k → d < 2 ^ k → ((i : ℕ) → i < k → bit i c ≡ bit i d) → c ≡ d
 same_column zero c d hc hd same = omega arith
 same_column (suc k) c d hc hd same =
     let high : c / 2 ≡ d / 2 = same_column k (c / 2) (d / 2) (omega (arith, pow-suc 2 k)) (omega (arith, pow-suc 2 k)) (λ i h. same (suc i) (omega arith)) in

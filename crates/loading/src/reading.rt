@@ -1,7 +1,8 @@
 //! Loading a whole text.
-ghost use Rattle.std.specs.Prelude.{◌≡◌, ◌≢◌, ℕ, ◌<◌, MatchOption, IfOk, length, slice_index};
-ghost use Rattle.saving.specs.TableText.{table_text};
+ghost use Rattle.std.specs.Prelude.{◌≡◌, ◌≢◌, ℕ, ◌<◌, MatchOption, IfOk, IfErr, length, slice_index};
 ghost use Rattle.loading.specs.Cutting.{cut};
+ghost use Rattle.loading.specs.Faults.{StandsAt};
+ghost use Rattle.loading.specs.Loaded.{text_of};
 ghost use Rattle.loading.specs.Whole.{Loads, LoadsSaved};
 ghost use Rattle.loading.specs.Rowwise.{TakesRows};
 
@@ -15,6 +16,24 @@ use crate::unloaded::Unloaded;
 pub struct Fault {
     pub line: usize,
     pub why: Unloaded,
+}
+
+impl Fault {
+    ghost use Rattle.loading.specs.Faults.{fault_number, fault_layer};
+
+    /// The number of the check that failed.
+    pub fn number(self) -> u8
+        ensures { result ≡ fault_number self }
+    {
+        self.why.number()
+    }
+
+    /// The layer of that check.
+    pub fn layer(self) -> u8
+        ensures { result ≡ fault_layer self }
+    {
+        self.why.layer()
+    }
 }
 
 // The place of the first byte 10.
@@ -57,7 +76,8 @@ fn take_rows(draft: Draft, memory: &mut [u16], text: &[u8]) -> Result<Draft, Fau
 pub fn load(text: &[u8], memory: &mut [u16], name: &[u8], place: &mut Loaded) -> Result<(), Fault>
     ensures loads { Loads text.now memory.old name.now place.old memory.new place.new result }
     ensures saved { LoadsSaved text.now (length memory.old) name.now result }
-    ensures same { IfOk result (λ _. text.now ≡ table_text place.new.places place.new.states place.new.cells) }
+    ensures same { IfOk result (λ _. text.now ≡ text_of place.new) }
+    ensures line { IfErr result (λ fault. StandsAt fault.why fault.line) }
 {
     let (first, rest) = cut(text);
     let draft = match Draft::begin(first, memory) {

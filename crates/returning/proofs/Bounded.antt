@@ -1,13 +1,10 @@
 -- A table whose numbers are cut off at 64 bits is the same table with the same text: the numbers that count are below its size.
-use Rattle.std.proofs.Common.{◌≡◌, ℕ, zero, suc, ◌+◌, ◌-◌, ◌*◌, ◌^◌, ◌<◌, ◌≤◌, Bool, true, false, cond, List, [], ◌∷◌, ◌++◌, map, length, get_or, min, sym, ap, ◌∙◌, subst, length-append, arith}
-use Rattle.std.specs.List.{flat_map}
+use Rattle.std.proofs.Common.{◌≡◌, ℕ, ◌+◌, ◌-◌, ◌*◌, ◌^◌, ◌<◌, ◌≤◌, Bool, true, false, cond, List, [], ◌∷◌, ◌++◌, map, get_or, min, sym, ◌∙◌, subst, arith}
 use Rattle.std.proofs.Math.ListN.{get_or-map}
-use Rattle.std.proofs.lemmas.Grind.{flat_map-append}
-use Rattle.words.specs.Rows.{width, written, next_of, mark_of}
+use Rattle.words.specs.Rows.{width, next_of, mark_of}
 use Rattle.words.specs.Residuals.{SameResidual}
 use Rattle.words.specs.TableOf.{TableOf}
-use Rattle.saving.specs.TableText.{numbers, names_line, row_line, table_text}
-use Rattle.saving.proofs.Lines.{table_text_is, row_line_is}
+use Rattle.saving.specs.TableText.{table_text}
 use Rattle.calls.proofs.OneText.{text_of_same}
 
 -- a list with its numbers cut off
@@ -20,31 +17,6 @@ at rows x = get_or-map (λ v. min v (2 ^ 64 - 1)) rows x 0
 
 pub cut_small : (rows : List ℕ) (x : ℕ) → get_or (cut_off rows) x 0 < 2 ^ 64
 cut_small rows x = omega (arith, at rows x)
-
--- ---- a text has a byte at least for each state
-
-ends_some : (xs : List ℕ) → 0 < length (xs ++ (10 ∷ []))
-ends_some xs = omega (arith, length-append xs (10 ∷ []))
-
-row_some : (n size : ℕ) (rows : List ℕ) (s : ℕ) → 0 < length (row_line (written n size rows) s)
-row_some n size rows s = subst (λ l. 0 < length l) (sym (row_line_is (written n size rows) s)) (ends_some _)
-
-lines_long : (n size : ℕ) (rows : List ℕ) (k : ℕ) → k ≤ length (flat_map (row_line (written n size rows)) (numbers k))
-lines_long n size rows zero = omega arith
-lines_long n size rows (suc k) =
-    let F = row_line (written n size rows) in
-    omega (
-      arith,
-      lines_long n size rows k,
-      row_some n size rows k,
-      ap length (flat_map-append F (numbers k) (k ∷ [])),
-      length-append (flat_map F (numbers k)) (F k ++ []),
-      length-append (F k) [],
-    )
-
-pub size_below : (n size : ℕ) (rows : List ℕ) → size ≤ length (table_text n size rows)
-size_below n size rows =
-    omega (arith, ap length (table_text_is n size rows), length-append (names_line n) (flat_map (row_line (written n size rows)) (numbers size)), lines_long n size rows size)
 
 -- ---- the table
 

@@ -1,1 +1,3 @@
 pub mod Returning
+pub mod Reasons
+pub mod LoadedLaws

@@ -1,11 +1,12 @@
 //! Loading a saved table, placing it on a new tray, and saving it again.
-ghost use Rattle.std.specs.Prelude.{◌≡◌, [], ◌∷◌, length, take};
+ghost use Rattle.std.specs.Prelude.{◌≡◌, [], ◌∷◌, IfOk, length, take};
 ghost use Rattle.tray.specs.Memory.{SameMemory};
 ghost use Rattle.calls.specs.Buffers.{held};
-ghost use Rattle.returning.specs.Returning.{Returns, SameBytes, SavesAgain};
+ghost use Rattle.returning.specs.Returning.{Replies, Returns, SameBytes, SavesAgain};
 
 use books::Book;
 use calls::{Call, Output, Reply, Settings, WorkFor, replay};
+use checks::layer_of;
 use loading::{Fault, Loaded, load};
 use tray::{Refusal, Tray};
 
@@ -14,6 +15,37 @@ use tray::{Refusal, Tray};
 pub enum Unreturned {
     NotLoaded(Fault),
     NotOpened(Refusal),
+}
+
+impl Unreturned {
+    ghost use Rattle.returning.specs.Reasons.{unreturned_number, unreturned_layer, unreturned_line};
+
+    /// The number of the check that failed.
+    pub fn number(self) -> u8
+        ensures { result ≡ unreturned_number self }
+    {
+        match self {
+            Unreturned::NotLoaded(fault) => fault.number(),
+            Unreturned::NotOpened(why) => why.number(),
+        }
+    }
+
+    /// The layer of that check.
+    pub fn layer(self) -> u8
+        ensures { result ≡ unreturned_layer self }
+    {
+        layer_of(self.number())
+    }
+
+    /// The line of the text at fault, counted from 1; 0 where no one line is.
+    pub fn line(self) -> usize
+        ensures { result ≡ unreturned_line self }
+    {
+        match self {
+            Unreturned::NotLoaded(fault) => fault.line,
+            Unreturned::NotOpened(_) => 0,
+        }
+    }
 }
 
 impl From<Fault> for Unreturned {
@@ -75,7 +107,8 @@ pub fn save_again<const STATES: usize, const COLUMNS: usize, const BYTES: usize>
     output: &mut Output<COLUMNS, BYTES>,
 ) -> Result<Reply, Unreturned>
     ensures returns { Returns STATES text.now name.now budget memory.old place.old (length tray.old.spare.now) tray.old.control tray.old.tables.now (held output.old) memory.new place.new tray.new.control tray.new.tables.now (held output.new) result }
-    ensures same { SameBytes text.now output.new.text result }
+    ensures replies { IfOk result (Replies STATES budget place.new output.old.text output.new.text) }
+    ensures same { IfOk result (SameBytes STATES budget text.now output.old.text output.new.text) }
     ensures owners { SameMemory tray.old tray.new }
 {
     load(text, memory, name, place)?;

@@ -2,8 +2,10 @@
 #![tactic(auto)]
 
 mod again;
+mod laws;
 
 pub use again::{Unreturned, save_again};
+pub use laws::laws_of_loaded;
 
 #[cfg(test)]
 mod tests;

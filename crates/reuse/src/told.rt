@@ -17,7 +17,7 @@ impl fmt::Display for Reason {
         if line > 0 {
             write!(f, "line {line}, ")?;
         }
-        write!(f, "check {}: {why}", why.number())
+        write!(f, "check {}: {why}", self.0.number())
     }
 }
 

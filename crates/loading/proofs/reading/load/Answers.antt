@@ -1,3 +1,5 @@
+use Rattle.std.proofs.Common.{Err}
+use Rattle.loading.proofs.FaultLines.{fault_stands}
 use Rattle.loading.proofs.NeverRefused.{loads_saved}
 use Rattle.loading.proofs.Rewritten.{loaded_text}
 use Rattle.loading.proofs.Loadings.{reads, loads_none, loads_ok, loads_row_on, loads_seal}
@@ -39,3 +41,13 @@ returns-in_err-draft-clause-saved c =
 pub returns-in-Err-seal-clause-saved : goal.returns-in-Err-seal-clause-saved
 returns-in-Err-seal-clause-saved c =
     loads_saved c.args.text.now c.args.memory.now c.args.name.now c.args.place.now c.take_rows.new.memory c.seal.new.place _ (returns-in-Err-seal-clause-loads c)
+
+pub returns-in_err-draft-clause-line : goal.returns-in_err-draft-clause-line
+returns-in_err-draft-clause-line c =
+    fault_stands c.args.text.now c.args.memory.now c.args.name.now c.args.place.now c.take_rows.new.memory c.args.place.now c.from_residual.result
+    (returns-in_err-draft-clause-loads c)
+
+pub returns-in-Err-seal-clause-line : goal.returns-in-Err-seal-clause-line
+returns-in-Err-seal-clause-line c =
+    fault_stands c.args.text.now c.args.memory.now c.args.name.now c.args.place.now c.take_rows.new.memory c.seal.new.place
+    (Err (record { line = 0; why = c.in-Err-seal.field-0.why })) (returns-in-Err-seal-clause-loads c)

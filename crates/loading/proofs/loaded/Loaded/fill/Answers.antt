@@ -1,10 +1,10 @@
-use Rattle.std.proofs.Common.{◌≡◌, ℕ, ◌*◌, ◌<◌, ◌≤◌, List, length, take, get_or, sym, ap, ap₂, ◌∙◌, subst, length-take-le, mul-le-mul_right, ⊎_elim, arith}
+use Rattle.std.proofs.Common.{◌≡◌, ℕ, zero, suc, ◌*◌, ◌≤◌, List, length, take, get_or, ap, ap₂, ◌∙◌, subst, length-take-le, mul-le-mul_right, ⊎_elim, arith}
 use Rattle.std.proofs.lemmas.Bool.{cases_lt}
 use Rattle.words.specs.Rows.{width}
 use Rattle.tray.specs.Checks.{AllPass}
+use Rattle.books.specs.Names.{IsName}
 use Rattle.loading.specs.declared.draft.Draft.{Draft}
 use Rattle.loading.specs.Drafts.{PutAt, room, seal_checks}
-use Rattle.loading.proofs.Letters.{three_bytes}
 use Rattle.loading.proofs.Sealings.{sealed_nexts, sealed_settled, letters_at, put_front}
 use Rattle.loading.proofs.Small.{put_small, take_small}
 use Rattle.loading.proofs.loaded.Loaded.fill.Goals as goal
@@ -32,10 +32,16 @@ invariant_of-self-clause-settled c =
     sealed_settled d c.args.memory.now c.args.name.now c.put_at.new.memory c.requires.pass
     (fronts d c.args.memory.now c.args.name.now _ c.put_at.new.memory _ c.requires.pass used c.put_at.ensures)
 
+-- whichever of its letters stand where
+letters : (name : List ℕ) → IsName name
+    → ((97 ≤ get_or name 0 0) × (get_or name 0 0 ≤ 122)) × ((97 ≤ get_or name 1 0) × (get_or name 1 0 ≤ 122)) × ((97 ≤ get_or name 2 0) × (get_or name 2 0 ≤ 122))
+letters name named = (letters_at name named 0 (omega arith), letters_at name named 1 (omega arith), letters_at name named 2 (omega arith))
+
 pub invariant_of-self-clause-letters : goal.invariant_of-self-clause-letters
-invariant_of-self-clause-letters c =
-    subst (λ x. (i : ℕ) → 1 ≤ c.args.draft.now.rows → i < 3 → (97 ≤ get_or x i 0) × (get_or x i 0 ≤ 122)) (sym (three_bytes c.args.name.now c.requires.named.0))
-    (λ i some h. letters_at c.args.name.now c.requires.named i h)
+invariant_of-self-clause-letters c zero some h = let l = letters c.args.name.now c.requires.named in search (l.0, l.1, l.2)
+invariant_of-self-clause-letters c (suc zero) some h = let l = letters c.args.name.now c.requires.named in search (l.0, l.1, l.2)
+invariant_of-self-clause-letters c (suc (suc zero)) some h = let l = letters c.args.name.now c.requires.named in search (l.0, l.1, l.2)
+invariant_of-self-clause-letters c (suc (suc (suc i))) some h = absurd (omega arith)
 
 pub invariant_of-self-clause-sixteen_bits : goal.invariant_of-self-clause-sixteen_bits
 invariant_of-self-clause-sixteen_bits c =
