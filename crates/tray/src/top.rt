@@ -1,7 +1,8 @@
 //! The calls that change or remove the top table without exploring.
-ghost use Rattle.std.specs.Prelude.{◌≡◌, length};
+ghost use Rattle.std.specs.Prelude.{◌≡◌, OnOk};
 ghost use Rattle.tray.specs.Memory.{SameMemory};
 ghost use Rattle.tray.specs.Calls.{Negates, Drops};
+ghost use Rattle.tray.specs.Flipped.{FlipsTop};
 
 use crate::refusal::Refusal;
 use crate::tray::Tray;
@@ -10,6 +11,7 @@ impl<'m, 's> Tray<'m, 's> {
     /// The top becomes its negation. Met and kept are the number of its states, which stays.
     pub fn negate(&mut self) -> Result<(usize, usize), Refusal>
         ensures negates { Negates self.old.control self.old.tables.now self.new.control self.new.tables.now result }
+        ensures marks { OnOk result (FlipsTop self.old.control self.old.tables.now self.new.tables.now) }
         ensures spare { self.new.spare.now ≡ self.old.spare.now }
         ensures owners { SameMemory self.old self.new }
     {
