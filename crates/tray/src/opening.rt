@@ -35,7 +35,7 @@ fn fitting(
     Ok(())
 }
 
-// How many numbers the slots of the tables take, but at most so many; none where the settings are out of range.
+// How many numbers the slots of the tables take, but at most so many; none where a setting is above its range.
 fn table_length(sets: usize, budget: usize, depth: usize, most: usize) -> usize
     ensures few { result ≤ most }
     ensures is { result ≡ tables_part sets budget depth most }
@@ -68,7 +68,8 @@ impl<'m, 's> Tray<'m, 's> {
     }
 
     /// The empty tray over one memory, cut behind the slots that the tables take under these settings, so that the rest
-    /// is work space. Open with the same settings finds enough memory exactly when (depth + 2) slots fit.
+    /// is work space; where a setting is above its range, all of it is. Open with the same settings finds enough memory
+    /// exactly when (depth + 2) slots fit: see `laws_of_opening`.
     pub fn within(memory: &'m mut [u16], sets: usize, budget: usize, depth: usize) -> Tray<'m, 'm>
         ensures settings { (result.control.sets ≡ 0) × (result.control.budget ≡ 0) × (result.control.depth ≡ 0) × (result.control.count ≡ 0) }
         ensures parts { result.tables.now ++ result.spare.now ≡ memory.old }
