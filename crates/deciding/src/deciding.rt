@@ -9,7 +9,7 @@ use crate::question::{Question, read_question};
 use books::NamedBook;
 use calls::{Settings, WorkFor};
 use grammar::{Build, Step};
-use reading::{Fault, Reason, read};
+use reading::{Fault, read};
 use tray::Tray;
 
 // Memory for 4 sets, a budget of 64 states and a depth of 8 tables: ten slots of 64 rows of 17 numbers.
@@ -34,10 +34,7 @@ fn judge_top(tray: &Tray) -> Result<Judged, Fault>
             witness,
             counterexample,
         }),
-        Err(why) => Err(Fault {
-            reason: Reason::Call(why),
-            place: 0,
-        }),
+        Err(why) => Err(Fault::from(why)),
     }
 }
 
@@ -66,10 +63,7 @@ fn judge_text<B: NamedBook>(book: &B, settings: Settings, text: &[u8]) -> Result
     let mut numbers = [0u16; NUMBERS];
     let mut tray = Tray::within(&mut numbers, sets, budget, depth);
     if let Err(why) = tray.open(sets, budget, depth) {
-        return Err(Fault {
-            reason: Reason::Call(why),
-            place: 0,
-        });
+        return Err(Fault::from(why));
     }
     judge_on(book, text, &mut tray)
 }

@@ -6,7 +6,8 @@ use Rattle.deciding.proofs.deciding.judge_text.Goals as goal
 
 pub returns-in-Err : goal.returns-in-Err
 returns-in-Err g c =
-    inl (refused_opening c.args.settings _ _ c.within-tray.ensures.whole c.within-tray.ensures.cut (number_of c.in-Err.why) c.in-Err.ensures.opens.0, refl)
+    rw c.from.ensures
+    (inl (refused_opening c.args.settings _ _ c.within-tray.ensures.whole c.within-tray.ensures.cut (number_of c.in-Err.why) c.in-Err.ensures.opens.0, refl))
 
 pub returns : goal.returns
 returns g c =
