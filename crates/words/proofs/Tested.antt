@@ -1,6 +1,6 @@
 -- Written rows are a table, by a test that computes: for each state its first word, and for two states a word that tells
 -- them apart.
-use Rattle.std.proofs.Common.{◌≡◌, ℕ, zero, suc, ◌^◌, ◌<◌, Bool, true, false, cond, not, ◌&&◌, ◌||◌, eqb, ltb, ◌⊎◌, List, [], ◌∷◌, ◌++◌, length, get_or, sym, refl, ap, ◌∙◌, subst, subst₂, ap₂, inl, inr, lt_trans, arith}
+use Rattle.std.proofs.Common.{◌≡◌, ℕ, ◌^◌, ◌<◌, Bool, true, false, cond, not, ◌&&◌, ◌||◌, eqb, ltb, List, [], ◌∷◌, ◌++◌, length, get_or, sym, refl, ap, ◌∙◌, subst, subst₂, ap₂, inl, inr, lt_trans, arith}
 use Rattle.std.proofs.lemmas.Bool.{ltb-true, eqb-true, and_parts, or_cases, cases_order, agree_below, agree_below_at, false≢true}
 use Rattle.words.specs.Words.{Columns}
 use Rattle.words.specs.Order.{Before, Leads, Precedes, NotLater, column_place}

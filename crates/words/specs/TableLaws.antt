@@ -27,3 +27,7 @@ TableUnique = (n : ℕ) (L : List ℕ → Bool) (rows : List ℕ) (size : ℕ) (
 -- the table of a language accepts the words of the language
 abbrev pub TableAnswers : Type 0
 TableAnswers = (n : ℕ) (L : List ℕ → Bool) (rows : List ℕ) (size : ℕ) → TableOf n L rows size → (w : List ℕ) → Columns n w → answers n size rows w ≡ L w
+
+-- and it is the table of the words that it accepts
+abbrev pub TableIsItsOwn : Type 0
+TableIsItsOwn = (n : ℕ) (L : List ℕ → Bool) (rows : List ℕ) (size : ℕ) → TableOf n L rows size → TableOf n (answers n size rows) rows size

@@ -1,7 +1,7 @@
 //! The theorems about sets, words and tables, on contracts of functions that a program can call.
 ghost use Rattle.words.specs.Laws.{SameMembers, ValueOfSet, CodedMembers, EveryChoice, ZerosAtEnd, WordOrder};
 ghost use Rattle.words.specs.HidingLaws.{BitsAreSets};
-ghost use Rattle.words.specs.TableLaws.{ResidualsNeverBoth, OneCount, TableCounts, TableUnique, TableAnswers};
+ghost use Rattle.words.specs.TableLaws.{ResidualsNeverBoth, OneCount, TableCounts, TableUnique, TableAnswers, TableIsItsOwn};
 
 /// Computes nothing: its contract says what the definitions of sets, words and their order come to.
 pub fn laws_of_words()
@@ -20,6 +20,7 @@ pub fn laws_of_tables()
     ensures counts { TableCounts }
     ensures unique { TableUnique }
     ensures answers { TableAnswers }
+    ensures own { TableIsItsOwn }
 {}
 
 /// Computes nothing: its contract says what hiding a bit of words comes to where only sets count.
