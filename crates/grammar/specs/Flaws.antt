@@ -1,5 +1,6 @@
--- The number of each flaw, and what is printed of it.
+-- The number and the layer of each flaw, and what is printed of it.
 use Rattle.std.specs.Prelude.{ℕ, List, codes}
+use Rattle.checks.specs.Layers.{layer_of}
 use Rattle.grammar.specs.declared.flaw.Flaw.{Flaw}
 use Rattle.grammar.specs.declared.flaw.Flaw.TheVariants.{NoRoom, TooLong, NoToken, Unfinished, TooDeep, NotDue, UnknownName, TooManyVariables}
 
@@ -12,6 +13,9 @@ flaw_number TooDeep = 12
 flaw_number NotDue = 13
 flaw_number UnknownName = 14
 flaw_number TooManyVariables = 15
+
+abbrev pub flaw_layer : Flaw → ℕ
+flaw_layer f = layer_of (flaw_number f)
 
 abbrev pub flaw_text : Flaw → List ℕ
 flaw_text NoRoom = codes "the memory for steps is too short for the text"

@@ -1,7 +1,8 @@
 //! What is wrong with a text.
 ghost use Rattle.std.specs.Prelude.{◌≡◌};
-ghost use Rattle.grammar.specs.Flaws.{flaw_number};
+ghost use Rattle.grammar.specs.Flaws.{flaw_number, flaw_layer};
 
+use checks::layer_of;
 use std::error::Error;
 use std::fmt;
 
@@ -39,6 +40,13 @@ impl Flaw {
         ensures { result ≡ flaw_number self }
     {
         self as u8
+    }
+
+    /// The layer of the check.
+    pub fn layer(self) -> u8
+        ensures { result ≡ flaw_layer self }
+    {
+        layer_of(self.number())
     }
 }
 

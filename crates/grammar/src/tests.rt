@@ -75,11 +75,13 @@ fn hide(place: u16, set: u8) -> Step {
     Step { place, build }
 }
 
-// Whether exactly these steps are planned for a text over so many sets.
+// Whether exactly these steps are planned for a text over so many sets, and the memory behind them is as it was.
 fn plans(text: &[u8], sets: usize, wanted: &[Step]) -> bool {
     let mut steps = [OLD; ROOM];
     match plan_text(&Standard, text, sets, &mut steps) {
-        Ok(count) => steps.get(..count) == Some(wanted),
+        Ok(count) => {
+            steps.get(..count) == Some(wanted) && steps[count..].iter().all(|step| *step == OLD)
+        }
         Err(_) => false,
     }
 }
@@ -359,6 +361,9 @@ fn numbers(rt: HostRuntime) {
     assert_eq!(rt; Flaw::NotDue.number(), 13);
     assert_eq!(rt; Flaw::UnknownName.number(), 14);
     assert_eq!(rt; Flaw::TooManyVariables.number(), 15);
+    assert_eq!(rt; Flaw::NoToken.layer(), 1);
+    assert_eq!(rt; Flaw::Unfinished.layer(), 2);
+    assert_eq!(rt; Flaw::NoRoom.layer(), 3);
 }
 
 #[test]
