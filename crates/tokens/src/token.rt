@@ -125,8 +125,8 @@ fn token_of(place: usize, bytes: &[u8]) -> Result<Token<'_>, NoToken<'_>>
     Err(NoToken { place, bytes })
 }
 
-/// What stands in a text from a place on: the next token, or what is none; or none, where only blanks are left. A text is
-/// cut from its beginning, place 0, each token from the end of the one before.
+/// What stands in a text from a place on: the next token, or a part that is none. Answers none where only blanks are
+/// left. A text is cut from its beginning, place 0, and on from the end of each part.
 pub fn next_token(text: &[u8], from: usize) -> Option<Part<'_>>
     ensures { IsNext text.now from result }
 {
