@@ -1,9 +1,9 @@
 -- One answer is owed to a text.
-use Rattle.std.proofs.Common.{◌≡◌, ℕ, ◌⊎◌, List, [], ◌∷◌, Some, None, Option, Ok, Err, Result, unwrap_or, inl, inr, sym, ap, ◌∙◌, subst}
+use Rattle.std.proofs.Common.{◌≡◌, ℕ, List, [], ◌∷◌, Some, None, Option, Ok, Err, Result, unwrap_or, inl, inr, sym, ap, ◌∙◌, subst}
 use Rattle.std.proofs.lemmas.Option.{none-some}
 use Rattle.words.specs.Automata.{Automaton}
 use Rattle.words.specs.Formulas.{Formula}
-use Rattle.words.specs.Residuals.{Equality, Count}
+use Rattle.words.specs.Residuals.{Equality}
 use Rattle.words.proofs.Counts.{one_count}
 use Rattle.tokens.specs.Items.{items_of}
 use Rattle.tray.specs.Refusals.{number_of}

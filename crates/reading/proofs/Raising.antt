@@ -1,5 +1,5 @@
 -- A tray that stood for a pile of formulas, with more tables above its own.
-use Rattle.std.proofs.Common.{◌≡◌, ℕ, ◌+◌, ◌<◌, Bool, List, [], ◌∷◌, ◌++◌, length, sym, subst, arith}
+use Rattle.std.proofs.Common.{◌≡◌, ℕ, ◌+◌, Bool, List, [], ◌∷◌, ◌++◌, length, sym, subst, arith}
 use Rattle.std.proofs.lemmas.List.{length-append}
 use Rattle.words.specs.Formulas.{Formula, Tells}
 use Rattle.tray.specs.Building.{SameSettings, SameTables}
