@@ -4,6 +4,7 @@ ghost use Rattle.books.specs.Standard.{count, automaton, holds};
 ghost use Rattle.calls.specs.Buffers.{held};
 ghost use Rattle.calls.specs.Lent.{lent_for};
 ghost use Rattle.calls.specs.Making.{Makes};
+ghost use Rattle.calls.specs.Promise.{Continues};
 ghost use Rattle.explain.specs.Shown.{Opened, Shows};
 ghost use Rattle.explain.specs.Asked.{Asks, few_places};
 
@@ -54,7 +55,8 @@ impl<'m> Desk<'m> {
 
     /// Makes a call.
     pub fn make(&mut self, call: Call) -> Reply
-        ensures { Makes (lent_for 64) count automaton holds call.entry self.old.tray.control self.old.tray.tables.now (held self.old.output) self.new.tray.control self.new.tray.tables.now (held self.new.output) result }
+        ensures step { Continues (lent_for 64) count automaton holds call.entry self.old.tray.control self.old.tray.tables.now (held self.old.output) self.new.tray.control self.new.tray.tables.now (held self.new.output) result }
+        ensures makes { Makes (lent_for 64) count automaton holds call.entry self.old.tray.control self.old.tray.tables.now (held self.old.output) self.new.tray.control self.new.tray.tables.now (held self.new.output) result }
     {
         let Desk { tray, work, output } = self;
         make(&Standard, tray, work, output, call)

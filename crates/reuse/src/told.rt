@@ -4,7 +4,6 @@ use calls::{Call, Output, Reply};
 use judging::{Judgement, Verdict};
 use loading::Fault;
 use std::{fmt, io};
-use tray::Refusal;
 use words::in_set;
 
 /// Why a text is not loaded, with the number of the line if it is one line's fault.
@@ -21,25 +20,20 @@ impl fmt::Display for Reason {
     }
 }
 
-/// A call and the reply to it, or why the tray was not opened for it.
+/// A call and the reply to it.
 #[derive(Clone, Copy)]
 pub struct Entry<'l> {
     pub call: Call<'l>,
-    pub answer: Result<Reply, Refusal>,
+    pub reply: Reply,
 }
 
 impl fmt::Display for Entry<'_> {
     fn fmt<W: fmt::Write>(&self, f: &mut fmt::Formatter<W>) -> fmt::Result {
-        match self.answer {
-            Err(_) => f.write_str("open")?,
-            Ok(_) => write_call(f, self.call)?,
-        }
-        match self.answer {
-            Ok(Reply::Built { met, kept }) => write!(f, ": {met} met, {kept} kept"),
-            Ok(Reply::Refused(why)) | Err(why) => {
-                write!(f, ": refused, check {}: {why}", why.number())
-            }
-            Ok(Reply::Dropped | Reply::Saved(_) | Reply::Judged(_)) => f.write_str(": done"),
+        write_call(f, self.call)?;
+        match self.reply {
+            Reply::Built { met, kept } => write!(f, ": {met} met, {kept} kept"),
+            Reply::Refused(why) => write!(f, ": refused, check {}: {why}", why.number()),
+            Reply::Dropped | Reply::Saved(_) | Reply::Judged(_) => f.write_str(": done"),
         }
     }
 }

@@ -1,7 +1,7 @@
 //! What a loaded table is good for: claims that use it beside the standard book.
 use crate::told::{Entry, tell_judgement};
 use books::{Book, Bound, NamedBook, Predicate, Standard};
-use calls::{Call, Output, Reply, Settings, WorkFor, replay};
+use calls::{Call, Output, Reply, WorkFor, make};
 use loading::Loaded;
 use std::io;
 use tray::{Refusal, Tray};
@@ -48,20 +48,19 @@ impl<'b, 'm, 's> Workbench<'b, 'm, 's> {
         }
     }
 
-    // The reply to a call, on the tray opened anew and after the calls before it.
-    fn reply(&mut self, before: &[Call], call: Call) -> Result<Reply, Refusal> {
+    // Opens the tray, which is empty then.
+    fn open(&mut self) -> Result<(), Refusal> {
+        self.tray.open(usize::from(SETS), BUDGET, DEPTH)
+    }
+
+    fn make(&mut self, call: Call) -> Reply {
         let Workbench {
             shelf,
             tray,
             work,
             output,
         } = self;
-        let settings = Settings {
-            sets: usize::from(SETS),
-            budget: BUDGET,
-            depth: DEPTH,
-        };
-        replay(*shelf, settings, tray, before, call, work, output)
+        make(*shelf, tray, work, output, call)
     }
 }
 
@@ -115,19 +114,24 @@ fn tell_claim(rt: &impl Print, bench: &mut Workbench, calls: &[Call]) -> io::Res
         return println!(rt; "A call was refused, and so the claim is not judged.");
     }
     let call = Call::Judge;
-    match bench.reply(calls, call) {
-        Ok(Reply::Judged(judgement)) => tell_judgement(rt, SETS, judgement, &bench.output),
-        answer => println!(rt; "  {}", Entry { call, answer }),
+    match bench.make(call) {
+        Reply::Judged(judgement) => tell_judgement(rt, SETS, judgement, &bench.output),
+        reply => println!(rt; "  {}", Entry { call, reply }),
     }
 }
 
-// Logs calls up to the first that builds no table, and answers whether all of them built one.
+// Makes calls on the tray opened anew, and logs them up to the first that builds no table. Answers whether all of them built
+// one.
 fn tell_calls(rt: &impl Print, bench: &mut Workbench, calls: &[Call]) -> io::Result<bool> {
-    for (i, call) in calls.iter().enumerate() {
+    if let Err(why) = bench.open() {
+        println!(rt; "  open: refused, check {}: {why}", why.number())?;
+        return Ok(false);
+    }
+    for call in calls {
         let call = *call;
-        let answer = bench.reply(&calls[..i], call);
-        println!(rt; "  {}", Entry { call, answer })?;
-        if !matches!(answer, Ok(Reply::Built { .. })) {
+        let reply = bench.make(call);
+        println!(rt; "  {}", Entry { call, reply })?;
+        if !matches!(reply, Reply::Built { .. }) {
             return Ok(false);
         }
     }

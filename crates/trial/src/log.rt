@@ -2,28 +2,19 @@
 use books::{Predicate, Standard};
 use calls::{Call, Reply};
 use std::fmt;
-use tray::Refusal;
 
-/// A line of the log: a call and the reply to it, or why the tray was not opened for it.
+/// A line of the log: a call and the reply to it.
 #[derive(Clone, Copy)]
 pub struct Entry<'l> {
     pub call: Call<'l>,
-    pub answer: Result<Reply, Refusal>,
+    pub reply: Reply,
 }
 
 impl fmt::Display for Entry<'_> {
     fn fmt<W: fmt::Write>(&self, f: &mut fmt::Formatter<W>) -> fmt::Result {
-        match self.answer {
-            Ok(reply) => {
-                write_call(f, self.call)?;
-                f.write_str(": ")?;
-                write_reply(f, reply)
-            }
-            Err(why) => {
-                f.write_str("open: ")?;
-                write_refusal(f, why)
-            }
-        }
+        write_call(f, self.call)?;
+        f.write_str(": ")?;
+        write_reply(f, self.reply)
     }
 }
 
@@ -63,7 +54,7 @@ fn write_listed<W: fmt::Write>(f: &mut fmt::Formatter<W>, listed: &[u8]) -> fmt:
 
 fn write_reply<W: fmt::Write>(f: &mut fmt::Formatter<W>, reply: Reply) -> fmt::Result {
     match reply {
-        Reply::Refused(why) => write_refusal(f, why),
+        Reply::Refused(why) => write!(f, "refused, check {}: {why}", why.number()),
         Reply::Built { met, kept } => write!(f, "{met} met, {kept} kept"),
         Reply::Dropped => write!(f, "dropped"),
         Reply::Saved(bytes) => write!(f, "{bytes} bytes"),
@@ -71,31 +62,23 @@ fn write_reply<W: fmt::Write>(f: &mut fmt::Formatter<W>, reply: Reply) -> fmt::R
     }
 }
 
-fn write_refusal<W: fmt::Write>(f: &mut fmt::Formatter<W>, why: Refusal) -> fmt::Result {
-    write!(f, "refused, check {}: {why}", why.number())
-}
-
 #[cfg(test)]
 mod tests {
     use super::*;
     use std::alloc::{AllocError, Global};
+    use tray::Refusal;
 
-    fn shown(
-        alloc: Global,
-        call: Call,
-        answer: Result<Reply, Refusal>,
-        text: &str,
-    ) -> Result<bool, AllocError> {
-        let entry = Entry { call, answer };
+    fn shown(alloc: Global, call: Call, reply: Reply, text: &str) -> Result<bool, AllocError> {
+        let entry = Entry { call, reply };
         Ok(format!(in alloc; "{entry}")?.as_str() == text)
     }
 
     #[test]
     fn entries_in_words(rt: HostRuntime) -> Result<(), AllocError> {
         let alloc = rt.alloc();
-        let built = Ok(Reply::Built { met: 3, kept: 2 });
-        let many = Ok(Reply::Refused(Refusal::TooManyStates));
-        let closed = Err(Refusal::NoMemory);
+        let built = Reply::Built { met: 3, kept: 2 };
+        let many = Reply::Refused(Refusal::TooManyStates);
+        let short = Reply::Refused(Refusal::NoMemory);
         let sum = Call::Place(Standard::SUM, &[0, 1, 2]);
         assert!(rt; shown(alloc, sum, built, "place sum on 0,1,2: 3 met, 2 kept")?);
         assert!(rt; shown(alloc, Call::Negate, built, "negate: 3 met, 2 kept")?);
@@ -111,8 +94,8 @@ mod tests {
             shown(
                 alloc,
                 Call::Single(1),
-                closed,
-                "open: refused, check 4: memory that the call was given is too short"
+                short,
+                "single 1: refused, check 4: memory that the call was given is too short"
             )?
         );
         Ok(())

@@ -1,11 +1,16 @@
 //! The account of the claims on a board, for whoever built it.
+ghost use Rattle.books.specs.Standard.{count, automaton, holds};
+ghost use Rattle.calls.specs.Buffers.{held};
+ghost use Rattle.calls.specs.Lent.{lent_for};
+ghost use Rattle.calls.specs.Promise.{Continues};
+
 use crate::claim::{Claim, SETS};
 use crate::log::Entry;
 use crate::past::Seen;
 use crate::recording::Board;
 use crate::verdict::{tell_judgement, tell_table};
 use books::Standard;
-use calls::{Call, Output, Reply, Settings, WorkFor, replay};
+use calls::{Call, Output, Reply, WorkFor, make};
 use std::io;
 use tray::{Refusal, Tray};
 
@@ -14,12 +19,6 @@ const BUDGET: usize = 64;
 
 // How many tables the tray holds at most.
 const DEPTH: usize = 8;
-
-const SETTINGS: Settings = Settings {
-    sets: SETS,
-    budget: BUDGET,
-    depth: DEPTH,
-};
 
 const COLUMNS: usize = 1 << SETS;
 
@@ -54,10 +53,17 @@ impl<'m, 's> Workbench<'m, 's> {
         }
     }
 
-    // The reply to a call, on the tray opened anew and after the calls before it.
-    fn reply(&mut self, before: &[Call], call: Call) -> Result<Reply, Refusal> {
+    // Opens the tray, which is empty then.
+    fn open(&mut self) -> Result<(), Refusal> {
+        self.tray.open(SETS, BUDGET, DEPTH)
+    }
+
+    // Makes a call, which is a step of a run.
+    fn make(&mut self, call: Call) -> Reply
+        ensures { Continues (lent_for BUDGET) count automaton holds call.entry self.old.tray.control self.old.tray.tables.now (held self.old.output) self.new.tray.control self.new.tray.tables.now (held self.new.output) result }
+    {
         let Workbench { tray, work, output } = self;
-        replay(&Standard, SETTINGS, tray, before, call, work, output)
+        make(&Standard, tray, work, output, call)
     }
 }
 
@@ -71,10 +77,7 @@ pub fn tell_claims(rt: &impl Print, board: Board, last: Option<Seen>) -> io::Res
         tell_claim(rt, &mut bench, board, *claim)?;
         tell_last(rt, *claim, last)?;
     }
-    match board.claims().last() {
-        Some(claim) => tell_saved(rt, &mut bench, claim.calls()),
-        None => Ok(()),
-    }
+    tell_saved(rt, &mut bench)
 }
 
 // The calls that build a claim, and the verdict on it if all of them were accepted.
@@ -86,54 +89,45 @@ fn tell_claim(
 ) -> io::Result<()> {
     println!(rt; "{}, a claim: {claim}", board.labels().board)?;
     if tell_calls(rt, bench, claim.calls())? {
-        return tell_verdict(rt, bench, board, claim.calls());
+        return tell_verdict(rt, bench, board);
     }
     println!(rt; "A call was refused, and so the claim is not judged.")
 }
 
-// The calls of a claim, each with its reply, and whether all were accepted. For each reply the calls before it are made
-// again, which is quadratic in the length of the list; a list has at most a dozen calls.
+// Makes the calls of a claim on the tray opened anew, prints each with its reply, and answers whether all were accepted.
 fn tell_calls(rt: &impl Print, bench: &mut Workbench, calls: &[Call]) -> io::Result<bool> {
+    if let Err(why) = bench.open() {
+        println!(rt; "  open: refused, check {}: {why}", why.number())?;
+        return Ok(false);
+    }
     let mut accepted = true;
-    for (i, call) in calls.iter().enumerate() {
+    for call in calls {
         let call = *call;
-        let answer = bench.reply(&calls[..i], call);
-        accepted = accepted && is_accepted(answer);
-        println!(rt; "  {}", Entry { call, answer })?;
+        let reply = bench.make(call);
+        accepted = accepted && !matches!(reply, Reply::Refused(_));
+        println!(rt; "  {}", Entry { call, reply })?;
     }
     Ok(accepted)
 }
 
-fn is_accepted(answer: Result<Reply, Refusal>) -> bool {
-    match answer {
-        Ok(Reply::Refused(_)) | Err(_) => false,
-        Ok(_) => true,
-    }
-}
-
-// The verdict on the claim that calls build, and the shortest words that show it.
-fn tell_verdict(
-    rt: &impl Print,
-    bench: &mut Workbench,
-    board: Board,
-    calls: &[Call],
-) -> io::Result<()> {
+// The verdict on the claim whose table lies on top, and the shortest words that show it.
+fn tell_verdict(rt: &impl Print, bench: &mut Workbench, board: Board) -> io::Result<()> {
     let call = Call::Judge;
-    match bench.reply(calls, call) {
-        Ok(Reply::Judged(judgement)) => tell_judgement(rt, board, judgement, &bench.output),
-        answer => println!(rt; "  {}", Entry { call, answer }),
+    match bench.make(call) {
+        Reply::Judged(judgement) => tell_judgement(rt, board, judgement, &bench.output),
+        reply => println!(rt; "  {}", Entry { call, reply }),
     }
 }
 
-// The table of the last claim, which calls build.
-fn tell_saved(rt: &impl Print, bench: &mut Workbench, calls: &[Call]) -> io::Result<()> {
+// The table on top, which is that of the last claim.
+fn tell_saved(rt: &impl Print, bench: &mut Workbench) -> io::Result<()> {
     let call = Call::Save;
-    match bench.reply(calls, call) {
-        Ok(Reply::Saved(bytes)) => {
+    match bench.make(call) {
+        Reply::Saved(bytes) => {
             println!(rt; "The table after these calls:")?;
             tell_table(rt, &bench.output.text[..bytes.min(BYTES)])
         }
-        answer => println!(rt; "  {}", Entry { call, answer }),
+        reply => println!(rt; "  {}", Entry { call, reply }),
     }
 }
 
@@ -163,8 +157,12 @@ mod tests {
         let mut tables = [0u16; TABLES];
         let mut spare = [0u16; SPARE];
         let mut bench = Workbench::over(&mut tables, &mut spare);
-        match bench.reply(claim.calls(), Call::Judge) {
-            Ok(Reply::Judged(judgement)) => Some((judgement.verdict, judgement.states)),
+        bench.open().ok()?;
+        for call in claim.calls() {
+            bench.make(*call);
+        }
+        match bench.make(Call::Judge) {
+            Reply::Judged(judgement) => Some((judgement.verdict, judgement.states)),
             _ => None,
         }
     }

@@ -5,7 +5,6 @@ use Rattle.calls.specs.declared.call.Call.{Call}
 use Rattle.calls.specs.declared.call.Call.TheVariants.{Place}
 use Rattle.calls.specs.Buffers.{held}
 use Rattle.calls.specs.Lent.{Lent, lent_by}
-use Rattle.calls.specs.Owed.{Terms}
 use Rattle.calls.specs.Promise.{terms}
 use Rattle.calls.proofs.Feeding.{fed_next, fed_all, step_under}
 use Rattle.calls.proofs.Stepping.{desk}
