@@ -1,6 +1,7 @@
 -- Worked examples of claims with the standard book, and what the rules say of each.
 use Rattle.std.specs.Prelude.{◌≡◌, ℕ, List, [], ◌∷◌, All, Some, None, Option, codes}
 use Rattle.books.specs.Standard.{count, numbered, automaton, holds}
+use Rattle.calls.specs.Lent.{lent_for}
 use Rattle.calls.specs.Owed.{Terms}
 use Rattle.judging.specs.declared.verdict.Verdict.{Verdict}
 use Rattle.judging.specs.declared.verdict.Verdict.TheVariants.{NoSets, SomeSets, AllSets}
@@ -38,7 +39,7 @@ rows =
 
 -- a tray over n sets with a budget of 64 and a depth of 8, with the standard book, 64 records of each kind and 512 links
 abbrev pub terms : ℕ → Terms
-terms n = record { sets = n; budget = 64; depth = 8; records = 64; size = count; automaton = automaton }
+terms n = record { sets = n; budget = 64; depth = 8; lent = lent_for 64; size = count; automaton = automaton }
 
 -- The text has no fault and reads as a claim; on an empty tray each building call of the claim passes its checks; and this is what is
 -- judged of the claim.
