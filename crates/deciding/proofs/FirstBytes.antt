@@ -7,6 +7,7 @@ use Rattle.std.proofs.lemmas.List.{take-append-drop, take_all, drop_all, length-
 use Rattle.std.proofs.lemmas.Option.{none-some}
 use Rattle.words.specs.Automata.{Automaton}
 use Rattle.saving.specs.TableText.{line_of}
+use Rattle.calls.specs.Lent.{lent_for}
 use Rattle.calls.specs.declared.running.Settings.{Settings}
 use Rattle.grammar.specs.Planning.{text_fault}
 use Rattle.grammar.specs.declared.flaw.Flaw.TheVariants.{TooLong}
@@ -32,7 +33,7 @@ module _ (numbered : List ℕ → Option ℕ) (size : ℕ) (a : ℕ → Automato
   too_long n text long = cond-true (nat_lt 1024 (length text)) (Some (TooLong, 0)) _ (lt-ltb 1024 (length text) long)
 
   refused_too : (s : Settings) (u w : List ℕ) → 1024 < length u → 1024 < length w → (r : Reason) (p : ℕ)
-      → RefusedFor numbered size a holds 64 3088 u (opened s) r p → RefusedFor numbered size a holds 64 3088 w (opened s) r p
+      → RefusedFor numbered size a holds (lent_for 64) 3088 u (opened s) r p → RefusedFor numbered size a holds (lent_for 64) 3088 w (opened s) r p
   refused_too s u w long long' (Text flaw) p h = too_long s.sets w long' ∙ sym (too_long s.sets u long) ∙ h
   refused_too s u w long long' (Call why) p h = absurd (none-some (TooLong, 0) (sym h.0 ∙ too_long s.sets u long))
 

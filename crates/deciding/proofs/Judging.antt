@@ -13,6 +13,7 @@ use Rattle.judging.specs.Earliest.{Written}
 use Rattle.judging.specs.Judged.{Says, Shown, Judged as JudgedWords}
 use Rattle.judging.specs.declared.verdict.Verdict.{Verdict}
 use Rattle.judging.specs.declared.verdict.Verdict.TheVariants.{NoSets, SomeSets, AllSets}
+use Rattle.calls.specs.Lent.{lent_for}
 use Rattle.tray.specs.Checks.{AllPass}
 use Rattle.tray.specs.View.{says}
 use Rattle.tray.specs.declared.control.Control.{Control}
@@ -167,7 +168,7 @@ module _ (numbered : List ℕ → Option ℕ) (a : ℕ → Automaton) (holds : �
 module _ (numbered : List ℕ → Option ℕ) (size : ℕ) (a : ℕ → Automaton) (holds : ℕ → List ℕ → Type 0) (text : List ℕ) (c : Control) (tables : List ℕ)
     (c' : Control) (tables' : List ℕ) (few : c.sets ≤ 8) (counts : ℕ × ℕ)
   where
-    pub judges_on : ReadsText numbered size a holds 64 3088 text c tables c' tables' (Ok counts) → (r : Result Judged Fault) → JudgesTop c' tables' r
+    pub judges_on : ReadsText numbered size a holds (lent_for 64) 3088 text c tables c' tables' (Ok counts) → (r : Result Judged Fault) → JudgesTop c' tables' r
         → JudgesOn numbered size a holds text c r
     judges_on read (Err e) h = absurd h
     judges_on read (Ok j) h =
@@ -195,9 +196,9 @@ module _ (numbered : List ℕ → Option ℕ) (size : ℕ) (a : ℕ → Automato
     same : record { sets = c.sets; budget = c.budget; depth = c.depth; count = c.count; sizes = replicate 16 0 } ≡ opened s
     same = λ i. record { sets = sets i; budget = budget i; depth = depth i; count = none i; sizes = replicate 16 0 }
 
-    refused_newly : (r : Reason) (p : ℕ) → RefusedFor numbered size a holds 64 3088 text c r p → RefusedFor numbered size a holds 64 3088 text (opened s) r p
-    refused_newly (Text flaw) p h = subst (λ d. RefusedFor numbered size a holds 64 3088 text d (Text flaw) p) same h
-    refused_newly (Call why) p h = subst (λ d. RefusedFor numbered size a holds 64 3088 text d (Call why) p) same h
+    refused_newly : (r : Reason) (p : ℕ) → RefusedFor numbered size a holds (lent_for 64) 3088 text c r p → RefusedFor numbered size a holds (lent_for 64) 3088 text (opened s) r p
+    refused_newly (Text flaw) p h = subst (λ d. RefusedFor numbered size a holds (lent_for 64) 3088 text d (Text flaw) p) same h
+    refused_newly (Call why) p h = subst (λ d. RefusedFor numbered size a holds (lent_for 64) 3088 text d (Call why) p) same h
 
     pub judges_newly : (r : Result Judged Fault) → JudgesOn numbered size a holds text c r → JudgesOn numbered size a holds text (opened s) r
     judges_newly (Ok j) h = subst (λ d. JudgesOn numbered size a holds text d (Ok j)) same h

@@ -6,6 +6,7 @@ use Rattle.saving.specs.TableText.{line_of}
 use Rattle.loading.proofs.LinesApart.{same_first}
 use Rattle.loading.proofs.SameValues.{same_values}
 use Rattle.tokens.specs.Items.{items_of}
+use Rattle.calls.specs.Lent.{lent_for}
 use Rattle.tray.specs.declared.control.Control.{Control}
 use Rattle.checks.specs.Layers.{layer_of}
 use Rattle.calls.specs.declared.running.Settings.{Settings}
@@ -64,8 +65,8 @@ module _ (numbered : List ℕ → Option ℕ) (size : ℕ) (a : ℕ → Automato
   laws = reading_laws numbered size a holds
 
   never_judged : (text : List ℕ) (c : Control) (j : Judged) (r : Reason) (p : ℕ) → JudgesOn numbered size a holds text c (Ok j)
-      → RefusedFor numbered size a holds 64 3088 text c r p → ⊥
-  never_judged text c j r p x y = laws.never_both 64 3088 text c r p x.1 y x.0 x.2 x.3
+      → RefusedFor numbered size a holds (lent_for 64) 3088 text c r p → ⊥
+  never_judged text c j r p x y = laws.never_both (lent_for 64) 3088 text c r p x.1 y x.0 x.2 x.3
 
   one_judged : (text : List ℕ) (c : Control) (j k : Judged) → JudgesOn numbered size a holds text c (Ok j) → JudgesOn numbered size a holds text c (Ok k) → j ≡ k
   one_judged text c j k x y =
@@ -79,7 +80,7 @@ module _ (numbered : List ℕ → Option ℕ) (size : ℕ) (a : ℕ → Automato
     one_fault e e' (inl x) (inr y) = absurd (never_both (opening s) (reason_number e.reason) y.0 x.0)
     one_fault e e' (inr x) (inl y) = absurd (never_both (opening s) (reason_number e'.reason) x.0 y.0)
     one_fault e e' (inr x) (inr y) =
-        let same = laws.one_fault 64 3088 text (opened s) e.reason e'.reason e.place e'.place x.1 y.1 in
+        let same = laws.one_fault (lent_for 64) 3088 text (opened s) e.reason e'.reason e.place e'.place x.1 y.1 in
         (ap reason_number same.0, same.1)
 
     never_fault : (j : Judged) (e : Fault) → JudgesText numbered size a holds s text (Ok j) → JudgesText numbered size a holds s text (Err e) → ⊥

@@ -4,6 +4,7 @@ use Rattle.words.specs.Automata.{Automaton}
 use Rattle.words.specs.Rows.{width}
 use Rattle.checks.specs.Layers.{layer_of}
 use Rattle.judging.specs.Judged.{Judged as JudgedWords}
+use Rattle.calls.specs.Lent.{lent_for}
 use Rattle.tray.specs.Checks.{FirstFailed, AllPass}
 use Rattle.tray.specs.View.{says}
 use Rattle.tray.specs.declared.control.Control.{Control}
@@ -54,8 +55,8 @@ module _ (numbered : List ℕ → Option ℕ) (size : ℕ) (a : ℕ → Automato
   abbrev pub JudgesOn : List ℕ → Control → Result Judged Fault → Type 0
   JudgesOn text c (Ok j) =
       (text_fault numbered a c.sets 3088 text ≡ None)
-      × (f : Claim) × ReadsAs numbered a c.sets text f × AllMade (terms_of c 64 size a) holds c.count [] (all_steps c.sets f) × Judges c.sets holds f j
-  JudgesOn text c (Err e) = RefusedFor numbered size a holds 64 3088 text c e.reason e.place
+      × (f : Claim) × ReadsAs numbered a c.sets text f × AllMade (terms_of c (lent_for 64) size a) holds c.count [] (all_steps c.sets f) × Judges c.sets holds f j
+  JudgesOn text c (Err e) = RefusedFor numbered size a holds (lent_for 64) 3088 text c e.reason e.place
 
   -- Open is refused, or it passes its checks, and then the text is judged on the new tray.
   abbrev pub JudgesText : Settings → List ℕ → Result Judged Fault → Type 0

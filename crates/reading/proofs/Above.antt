@@ -22,7 +22,7 @@ use Rattle.tray.specs.declared.control.Control.{Control}
 use Rattle.tray.specs.declared.refusal.Refusal.{Refusal}
 use Rattle.tray.proofs.Checking.{not_above}
 use Rattle.tray.proofs.Telling.{formula_laws}
-use Rattle.calls.specs.Lent.{lent_for}
+use Rattle.calls.specs.Lent.{Lent}
 use Rattle.calls.specs.Owed.{Terms}
 use Rattle.calls.specs.Pile.{SameMet}
 use Rattle.calls.specs.Promise.{TellEach}
@@ -64,12 +64,12 @@ told_at : (n : ℕ) (holds : ℕ → List ℕ → Type 0) (c : Control) (tables 
 told_at n holds c tables f k j e told = subst (λ i. Tells n holds f (says c tables i)) (sym e) told
 
 -- calls go by the settings, which stay
-same_terms : (records size : ℕ) (a : ℕ → Automaton) (c c1 : Control) → SameSettings c c1 → terms_of c1 records size a ≡ terms_of c records size a
-same_terms records size a c c1 same =
-    let made : ℕ → ℕ → ℕ → Terms = λ n b d. record { sets = n; budget = b; depth = d; lent = lent_for records; size = size; automaton = a } in
+same_terms : (lent : Lent) (size : ℕ) (a : ℕ → Automaton) (c c1 : Control) → SameSettings c c1 → terms_of c1 lent size a ≡ terms_of c lent size a
+same_terms lent size a c c1 same =
+    let made : ℕ → ℕ → ℕ → Terms = λ n b d. record { sets = n; budget = b; depth = d; lent = lent; size = size; automaton = a } in
     ap (λ n. made n c1.budget c1.depth) same.sets ∙ ap (λ b. made c.sets b c1.depth) same.budget ∙ ap (made c.sets c.budget) same.depth
 
-module _ (records size : ℕ) (a : ℕ → Automaton) (holds : ℕ → List ℕ → Type 0) (below : ℕ) (c : Control) (tables : List ℕ) (c1 : Control) (tables1 : List ℕ)
+module _ (lent : Lent) (size : ℕ) (a : ℕ → Automaton) (holds : ℕ → List ℕ → Type 0) (below : ℕ) (c : Control) (tables : List ℕ) (c1 : Control) (tables1 : List ℕ)
     (c2 : Control) (tables2 : List ℕ)
   where
     -- a call that makes formula f above the rest of the pile, where b tables are left below it
@@ -101,12 +101,12 @@ module _ (records size : ℕ) (a : ℕ → Automaton) (holds : ℕ → List ℕ 
         )
 
     place_step : (p : ℕ) (listed : List ℕ) (pile : List Formula) → StandsAbove holds below c tables c1 tables1 pile → (r : Result (ℕ × ℕ) Refusal)
-        → Places records (8 * records) size p (a p) (holds p) listed c1 tables1 c2 tables2 r
-        → Outcome (terms_of c1 records size a) holds below c tables pile (place p listed) c1 tables1 c2 tables2 r
+        → Places lent.states lent.links size p (a p) (holds p) listed c1 tables1 c2 tables2 r
+        → Outcome (terms_of c1 lent size a) holds below c tables pile (place p listed) c1 tables1 c2 tables2 r
     place_step p listed pile stands r h =
         let n : ℕ = c1.sets in
         let Same : List ℕ → List ℕ → Type 0 = SameBookState (a p) listed in
-        comes pile stands (λ k. place_checks n c1.budget c1.depth k records (8 * records) size (a p).places p listed)
+        comes pile stands (λ k. place_checks n c1.budget c1.depth k lent.states lent.links size (a p).places p listed)
         c1.count Same (λ w. holds p (map (λ i. coded i w) listed)) (MoreThan n Same c1.budget) (placed p listed) pile (sym stands.count)
         (told_now holds below c tables c1 tables1 pile stands) stands.sure
         (λ pass j l. not_above n (get_or listed j 0) (λ out. pass.1.1.1.0 (j, l, out))) (λ decided. decided)
@@ -123,9 +123,9 @@ module _ (records size : ℕ) (a : ℕ → Automaton) (holds : ℕ → List ℕ 
             → (Sure holds f → Sure holds g → Decided holds (op f g) → Sure holds (op f g))
             → ((L K M : List ℕ → Bool) → Tells c1.sets holds f L → Tells c1.sets holds g K
             → ((w : List ℕ) → Columns c1.sets w → Decides (M w) (Joins join L K w)) → Tells c1.sets holds (op f g) M)
-            → (r : Result (ℕ × ℕ) Refusal) → JoinsTables join records (8 * records) c1 tables1 c2 tables2 r
+            → (r : Result (ℕ × ℕ) Refusal) → JoinsTables join lent.pairs lent.links c1 tables1 c2 tables2 r
             → Comes c1.sets a holds
-            (join_checks c1.budget (below + length (g ∷ (f ∷ rest))) records (8 * records) ++ met_over c1.sets a holds c1.budget (op f g)) below (op f g) rest
+            (join_checks c1.budget (below + length (g ∷ (f ∷ rest))) lent.pairs lent.links ++ met_over c1.sets a holds c1.budget (op f g)) below (op f g) rest
             c tables c1 tables1 c2 tables2 r
         joined to from names parts tells r h =
             let n : ℕ = c1.sets in
@@ -143,7 +143,7 @@ module _ (records size : ℕ) (a : ℕ → Automaton) (holds : ℕ → List ℕ 
             let from_met : (u w : List ℕ) → Columns n u → Columns n w → Met u w → Same u w =
             λ u w cu cw e. let x = from u w e in (after_residual n holds f L tf u w cu cw x.0, after_residual n holds g K tg u w cu cw x.1) in
             let sure_rest : All (Sure holds) (f ∷ rest) = All-tail (Sure holds) g (f ∷ rest) stands.sure in
-            comes pile stands (λ k. join_checks c1.budget k records (8 * records)) (c1.count - 2) Same (Joins join L K) (MoreThan n Same c1.budget)
+            comes pile stands (λ k. join_checks c1.budget k lent.pairs lent.links) (c1.count - 2) Same (Joins join L K) (MoreThan n Same c1.budget)
             (op f g) rest (omega (arith, stands.count)) more.2 (All-tail (Sure holds) f rest sure_rest)
             (λ pass. names more.0 told.0)
             (parts (All-head (Sure holds) f rest sure_rest) (All-head (Sure holds) g (f ∷ rest) stands.sure))
@@ -153,8 +153,8 @@ module _ (records size : ℕ) (a : ℕ → Automaton) (holds : ℕ → List ℕ 
             (λ pass. more_same n Met Same c1.budget to_met) r h
 
     both_step : (pile : List Formula) → 2 ≤ length pile → StandsAbove holds below c tables c1 tables1 pile → (r : Result (ℕ × ℕ) Refusal)
-        → JoinsTables both-join records (8 * records) c1 tables1 c2 tables2 r
-        → Outcome (terms_of c1 records size a) holds below c tables pile both-call c1 tables1 c2 tables2 r
+        → JoinsTables both-join lent.pairs lent.links c1 tables1 c2 tables2 r
+        → Outcome (terms_of c1 lent size a) holds below c tables pile both-call c1 tables1 c2 tables2 r
     both_step [] enough stands r h = absurd (omega arith)
     both_step (g ∷ []) enough stands r h = absurd (omega arith)
     both_step (g ∷ (f ∷ rest)) enough stands r h =
@@ -162,8 +162,8 @@ module _ (records size : ℕ) (a : ℕ → Automaton) (holds : ℕ → List ℕ 
         ((formula_laws holds).both_tells c1.sets f g) r h
 
     either_step : (pile : List Formula) → 2 ≤ length pile → StandsAbove holds below c tables c1 tables1 pile → (r : Result (ℕ × ℕ) Refusal)
-        → JoinsTables either-join records (8 * records) c1 tables1 c2 tables2 r
-        → Outcome (terms_of c1 records size a) holds below c tables pile either-call c1 tables1 c2 tables2 r
+        → JoinsTables either-join lent.pairs lent.links c1 tables1 c2 tables2 r
+        → Outcome (terms_of c1 lent size a) holds below c tables pile either-call c1 tables1 c2 tables2 r
     either_step [] enough stands r h = absurd (omega arith)
     either_step (g ∷ []) enough stands r h = absurd (omega arith)
     either_step (g ∷ (f ∷ rest)) enough stands r h =
@@ -173,8 +173,8 @@ module _ (records size : ℕ) (a : ℕ → Automaton) (holds : ℕ → List ℕ 
     -- ---- hide
 
     hide_step : (i : ℕ) (pile : List Formula) → 1 ≤ length pile → StandsAbove holds below c tables c1 tables1 pile → (r : Result (ℕ × ℕ) Refusal)
-        → HidesTop records (8 * records) i c1 tables1 c2 tables2 r
-        → Outcome (terms_of c1 records size a) holds below c tables pile (hide i) c1 tables1 c2 tables2 r
+        → HidesTop lent.sets lent.links i c1 tables1 c2 tables2 r
+        → Outcome (terms_of c1 lent size a) holds below c tables pile (hide i) c1 tables1 c2 tables2 r
     hide_step i [] enough stands r h = absurd (omega arith)
     hide_step i (f ∷ rest) enough stands r h =
         let n : ℕ = c1.sets in
@@ -187,7 +187,7 @@ module _ (records size : ℕ) (a : ℕ → Automaton) (holds : ℕ → List ℕ 
         λ u w cu cw. but_same n i (SameResidual n L) (SameAfter n holds f) (residual_after n holds f L tf) u w in
         let from_met : (u w : List ℕ) → Columns n u → Columns n w → Met u w → Same u w =
         λ u w cu cw. but_same n i (SameAfter n holds f) (SameResidual n L) (after_residual n holds f L tf) u w in
-        comes (f ∷ rest) stands (λ k. hide_checks n c1.budget k records (8 * records) i) (c1.count - 1) Same (Hides n i L) (MoreThan n Same c1.budget)
+        comes (f ∷ rest) stands (λ k. hide_checks n c1.budget k lent.sets lent.links i) (c1.count - 1) Same (Hides n i L) (MoreThan n Same c1.budget)
         (hidden i f) rest (omega (arith, stands.count)) told.2 (All-tail (Sure holds) f rest stands.sure)
         (λ pass. (not_above n i pass.1.0, told.0))
         (λ decided. (decided, All-head (Sure holds) f rest stands.sure))
@@ -199,7 +199,7 @@ module _ (records size : ℕ) (a : ℕ → Automaton) (holds : ℕ → List ℕ 
     -- ---- negate
 
     negate_step : (pile : List Formula) → 1 ≤ length pile → StandsAbove holds below c tables c1 tables1 pile → (r : Result (ℕ × ℕ) Refusal)
-        → Negates c1 tables1 c2 tables2 r → Outcome (terms_of c1 records size a) holds below c tables pile negate c1 tables1 c2 tables2 r
+        → Negates c1 tables1 c2 tables2 r → Outcome (terms_of c1 lent size a) holds below c tables pile negate c1 tables1 c2 tables2 r
     negate_step pile enough stands (Err why) h = (subst (λ k. FirstFailed (top_checks k) (number_of why)) stands.count h.0, h.1, h.2)
     negate_step [] enough stands (Ok counts) h = absurd (omega arith)
     negate_step (f ∷ rest) enough stands (Ok counts) h =
@@ -230,7 +230,7 @@ module _ (records size : ℕ) (a : ℕ → Automaton) (holds : ℕ → List ℕ 
     as_builds i (Err why) h = h
 
     single_step : (i : ℕ) (pile : List Formula) → StandsAbove holds below c tables c1 tables1 pile → (r : Result (ℕ × ℕ) Refusal)
-        → Singles i c1 tables1 c2 tables2 r → Outcome (terms_of c1 records size a) holds below c tables pile (single-call i) c1 tables1 c2 tables2 r
+        → Singles i c1 tables1 c2 tables2 r → Outcome (terms_of c1 lent size a) holds below c tables pile (single-call i) c1 tables1 c2 tables2 r
     single_step i pile stands r h =
         let n : ℕ = c1.sets in
         let few : ℕ → List (ℕ × Type 0) = λ k. no_set n i ∷ full c1.depth k ∷ [] in
@@ -247,8 +247,8 @@ module _ (records size : ℕ) (a : ℕ → Automaton) (holds : ℕ → List ℕ 
     -- ---- any call
 
     now_step : (build : Build) (pile : List Formula) → takes (call_of build) ≤ length pile → StandsAbove holds below c tables c1 tables1 pile
-        → (r : Result (ℕ × ℕ) Refusal) → Steps records size a holds build c1 tables1 c2 tables2 r
-        → Outcome (terms_of c1 records size a) holds below c tables pile (call_of build) c1 tables1 c2 tables2 r
+        → (r : Result (ℕ × ℕ) Refusal) → Steps lent size a holds build c1 tables1 c2 tables2 r
+        → Outcome (terms_of c1 lent size a) holds below c tables pile (call_of build) c1 tables1 c2 tables2 r
     now_step (Place p sets places) pile enough stands r h = place_step p (take places sets) pile stands r h
     now_step (Single i) pile enough stands r h = single_step i pile stands r h
     now_step Negate pile enough stands r h = negate_step pile enough stands r h
@@ -258,8 +258,8 @@ module _ (records size : ℕ) (a : ℕ → Automaton) (holds : ℕ → List ℕ 
 
     -- a call that finds enough on the pile
     pub each_step : (build : Build) (pile : List Formula) → takes (call_of build) ≤ length pile → StandsAbove holds below c tables c1 tables1 pile
-        → (r : Result (ℕ × ℕ) Refusal) → Steps records size a holds build c1 tables1 c2 tables2 r
-        → Outcome (terms_of c records size a) holds below c tables pile (call_of build) c1 tables1 c2 tables2 r
+        → (r : Result (ℕ × ℕ) Refusal) → Steps lent size a holds build c1 tables1 c2 tables2 r
+        → Outcome (terms_of c lent size a) holds below c tables pile (call_of build) c1 tables1 c2 tables2 r
     each_step build pile enough stands r h =
-        subst (λ t. Outcome t holds below c tables pile (call_of build) c1 tables1 c2 tables2 r) (same_terms records size a c c1 stands.settings)
+        subst (λ t. Outcome t holds below c tables pile (call_of build) c1 tables1 c2 tables2 r) (same_terms lent size a c c1 stands.settings)
         (now_step build pile enough stands r h)

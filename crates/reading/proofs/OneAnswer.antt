@@ -9,6 +9,7 @@ use Rattle.tokens.specs.Items.{items_of}
 use Rattle.tray.specs.Refusals.{number_of}
 use Rattle.tray.specs.declared.control.Control.{Control}
 use Rattle.tray.specs.declared.refusal.Refusal.{Refusal}
+use Rattle.calls.specs.Lent.{Lent}
 use Rattle.calls.specs.Owed.{Terms}
 use Rattle.calls.specs.Pile.{SameMet}
 use Rattle.calls.proofs.Failing.{never_both, one_refusal}
@@ -61,14 +62,14 @@ ends_equality n P = record {
 
 -- ---- of a text
 
-module _ (numbered : List ℕ → Option ℕ) (size : ℕ) (a : ℕ → Automaton) (holds : ℕ → List ℕ → Type 0) (records room : ℕ) (text : List ℕ) (c : Control) where
+module _ (numbered : List ℕ → Option ℕ) (size : ℕ) (a : ℕ → Automaton) (holds : ℕ → List ℕ → Type 0) (lent : Lent) (room : ℕ) (text : List ℕ) (c : Control) where
   pub same_claim : (f g : Claim) → ReadsAs numbered a c.sets text f → ReadsAs numbered a c.sets text g → f ≡ g
   same_claim f g x y = one_claim (items_of numbered a text) f g x.spells y.spells
 
   same_flaw : (x y : Flaw × ℕ) → Some x ≡ Some y → x ≡ y
   same_flaw x y e = ap (λ o. unwrap_or o x) e
 
-  one_fault : (r s : Reason) (p q : ℕ) → RefusedFor numbered size a holds records room text c r p → RefusedFor numbered size a holds records room text c s q
+  one_fault : (r s : Reason) (p q : ℕ) → RefusedFor numbered size a holds lent room text c r p → RefusedFor numbered size a holds lent room text c s q
       → (r ≡ s) × (p ≡ q)
   one_fault (Text f) (Text g) p q x y =
       let same = same_flaw (f, p) (g, q) (sym x ∙ y) in
@@ -76,25 +77,25 @@ module _ (numbered : List ℕ → Option ℕ) (size : ℕ) (a : ℕ → Automato
   one_fault (Text f) (Call s) p q x y = absurd (none-some (f, p) (sym y.0 ∙ x))
   one_fault (Call r) (Text g) p q x y = absurd (none-some (g, q) (sym x.0 ∙ y))
   one_fault (Call r) (Call s) p q x y =
-      let t : Terms = terms_of c records size a in
+      let t : Terms = terms_of c lent size a in
       let moved = subst (λ f. RefusedAt t holds c.count [] (all_steps c.sets f) (number_of s) q) (same_claim y.1 x.1 y.2 x.2) y.3 in
       let same = refused_once t holds c.count [] (all_steps c.sets x.1) r s p q x.3 moved in
       (ap Call same.0, same.1)
 
-  refused_not_made : (r : Reason) (p : ℕ) (f : Claim) → RefusedFor numbered size a holds records room text c r p → text_fault numbered a c.sets room text ≡ None
-      → ReadsAs numbered a c.sets text f → AllMade (terms_of c records size a) holds c.count [] (all_steps c.sets f) → ⊥
+  refused_not_made : (r : Reason) (p : ℕ) (f : Claim) → RefusedFor numbered size a holds lent room text c r p → text_fault numbered a c.sets room text ≡ None
+      → ReadsAs numbered a c.sets text f → AllMade (terms_of c lent size a) holds c.count [] (all_steps c.sets f) → ⊥
   refused_not_made (Text flaw) p f x none reads made = none-some (flaw, p) (sym none ∙ x)
   refused_not_made (Call why) p f x none reads made =
-      let t : Terms = terms_of c records size a in
+      let t : Terms = terms_of c lent size a in
       let moved = subst (λ g. AllMade t holds c.count [] (all_steps c.sets g)) (same_claim f x.1 reads x.2) made in
       not_made t holds c.count [] (all_steps c.sets x.1) (number_of why) p moved x.3
 
   module _ (tables : List ℕ) (c1 : Control) (tables1 : List ℕ) (c2 : Control) (tables2 : List ℕ) where
-    one_answer : (r s : Result (ℕ × ℕ) Fault) → ReadsText numbered size a holds records room text c tables c1 tables1 r
-        → ReadsText numbered size a holds records room text c tables c2 tables2 s → r ≡ s
+    one_answer : (r s : Result (ℕ × ℕ) Fault) → ReadsText numbered size a holds lent room text c tables c1 tables1 r
+        → ReadsText numbered size a holds lent room text c tables c2 tables2 s → r ≡ s
     one_answer (Ok j) (Ok k) x y =
         let f : Claim = x.1 in
-        let other = subst (λ g. Builds numbered size a holds records text g c tables c2 tables2 k) (same_claim y.1 f y.2.reads x.2.reads) y.2 in
+        let other = subst (λ g. Builds numbered size a holds lent text g c tables c2 tables2 k) (same_claim y.1 f y.2.reads x.2.reads) y.2 in
         let Met = SameMet c.sets a holds (whole c.sets f) in
         let Kept = SameEnds c.sets (Satisfied holds f) in
         let met : j.0 ≡ k.0 = one_count c.sets Met (met_equality c.sets a holds (whole c.sets f)) j.0 k.0 x.2.met other.met in
@@ -108,7 +109,7 @@ module _ (numbered : List ℕ → Option ℕ) (size : ℕ) (a : ℕ → Automato
 
 pub reading_laws : (numbered : List ℕ → Option ℕ) (size : ℕ) (a : ℕ → Automaton) (holds : ℕ → List ℕ → Type 0) → ReadingLaws numbered size a holds
 reading_laws numbered size a holds = record {
-  one_fault = λ records room text c. one_fault numbered size a holds records room text c;
-  never_both = λ records room text c. refused_not_made numbered size a holds records room text c;
-  one_answer = λ records room text c. one_answer numbered size a holds records room text c;
+  one_fault = λ lent room text c. one_fault numbered size a holds lent room text c;
+  never_both = λ lent room text c. refused_not_made numbered size a holds lent room text c;
+  one_answer = λ lent room text c. one_answer numbered size a holds lent room text c;
 }

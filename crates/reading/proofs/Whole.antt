@@ -4,6 +4,7 @@ use Rattle.std.proofs.lemmas.List.Elements.{All-head}
 use Rattle.words.specs.Automata.{Automaton}
 use Rattle.words.specs.Formulas.{Tells}
 use Rattle.words.specs.Words.{Columns}
+use Rattle.calls.specs.Lent.{Lent}
 use Rattle.tokens.specs.Items.{items_of}
 use Rattle.tray.specs.Refusals.{number_of}
 use Rattle.tray.specs.View.{says}
@@ -27,7 +28,7 @@ use Rattle.reading.proofs.Telling.{means, table_means, residual_count}
 pub most_is : (n : ℕ) → n ≤ 8 → most n ≡ n
 most_is n few = omega (arith, few)
 
-module _ (numbered : List ℕ → Option ℕ) (size : ℕ) (a : ℕ → Automaton) (holds : ℕ → List ℕ → Type 0) (records : ℕ) (text : List ℕ)
+module _ (numbered : List ℕ → Option ℕ) (size : ℕ) (a : ℕ → Automaton) (holds : ℕ → List ℕ → Type 0) (lent : Lent) (text : List ℕ)
     (c : Control) (tables : List ℕ) (few : c.sets ≤ 8)
   where
     same_reading : (f : Claim) → ReadsAs numbered a c.sets text f → (items_of numbered a text ≡ spelled f []) × Fits c.sets 0 f
@@ -54,10 +55,10 @@ module _ (numbered : List ℕ → Option ℕ) (size : ℕ) (a : ℕ → Automato
         planned : map step_of steps ≡ all_steps c.sets f
         planned = are ∙ ap (λ n. all_steps n f) (most_is c.sets few)
 
-        pub read_text : (c' : Control) (tables' : List ℕ) (r : Result (ℕ × ℕ) Fault) → MakesSteps records size a holds steps c tables c' tables' r
-            → ReadsText numbered size a holds records room text c tables c' tables' r
+        pub read_text : (c' : Control) (tables' : List ℕ) (r : Result (ℕ × ℕ) Fault) → MakesSteps lent size a holds steps c tables c' tables' r
+            → ReadsText numbered size a holds lent room text c tables c' tables' r
         read_text c' tables' (Ok counts) h =
-            let t = terms_of c records size a in
+            let t = terms_of c lent size a in
             let done = subst (λ calls. Enough 0 calls → AllMade t holds c.count [] calls × StandsAbove holds c.count c tables c' tables' (pile_after [] calls)
             × Counted t holds (pile_after [] calls) counts) planned h (whole_enough c.sets f) in
             let stands = subst (λ pile. StandsAbove holds c.count c tables c' tables' pile) (whole_pile c.sets f) done.1 in
@@ -79,10 +80,10 @@ module _ (numbered : List ℕ → Option ℕ) (size : ℕ) (a : ℕ → Automato
               },
             )
         read_text c' tables' (Err e) h =
-            let t = terms_of c records size a in
+            let t = terms_of c lent size a in
             let done = subst (λ calls. Enough 0 calls → (why : Refusal) × (e.reason ≡ call why)
             × RefusedAt t holds c.count [] calls (number_of why) e.place × SameTray c tables c' tables') planned h (whole_enough c.sets f) in (
-              subst (λ reason. RefusedFor numbered size a holds records room text c reason e.place) (sym done.1) (none, f, reads, done.2),
+              subst (λ reason. RefusedFor numbered size a holds lent room text c reason e.place) (sym done.1) (none, f, reads, done.2),
               done.3,
               stands_still holds c tables c' tables' done.3,
             )

@@ -8,6 +8,7 @@ use Rattle.tray.specs.Building.{SameSettings, SameTables}
 use Rattle.tray.specs.Refusals.{number_of}
 use Rattle.tray.specs.View.{says}
 use Rattle.tray.specs.declared.control.Control.{Control}
+use Rattle.calls.specs.Lent.{Lent}
 use Rattle.calls.specs.Pile.{SameMet}
 use Rattle.calls.specs.Promise.{StandsFor}
 use Rattle.grammar.specs.Claims.{Claim}
@@ -27,14 +28,14 @@ abbrev pub StandsWith : (ℕ → List ℕ → Type 0) → List Formula → Contr
 StandsWith holds more c tables c' tables' =
     (pile : List Formula) → StandsFor holds c tables pile → StandsFor holds c' tables' (more ++ pile)
 
--- A book that numbers names, with so many predicates, the automaton and the relation of each; so many records for explored states.
-module _ (numbered : List ℕ → Option ℕ) (size : ℕ) (a : ℕ → Automaton) (holds : ℕ → List ℕ → Type 0) (records : ℕ) where
+-- A book that numbers names, with so many predicates, the automaton and the relation of each; and the memory that is lent to each call.
+module _ (numbered : List ℕ → Option ℕ) (size : ℕ) (a : ℕ → Automaton) (holds : ℕ → List ℕ → Type 0) (lent : Lent) where
   -- The text reads as this claim, and one table lies on top of those that were there: it accepts the words that code sets which
   -- satisfy the claim. It is the table of the whole formula, which means what the claim means. The tables below are untouched. The
   -- counts are those of the last call: met of the whole formula, and the number of residuals of the claim.
   pub record Builds (text : List ℕ) (f : Claim) (c : Control) (tables : List ℕ) (c' : Control) (tables' : List ℕ) (counts : ℕ × ℕ) : Type 0 where
     pub reads : ReadsAs numbered a c.sets text f
-    pub passes : AllMade (terms_of c records size a) holds c.count [] (all_steps c.sets f)
+    pub passes : AllMade (terms_of c lent size a) holds c.count [] (all_steps c.sets f)
     pub settings : SameSettings c c'
     pub count : c'.count ≡ c.count + 1
     pub others : SameTables c.count c tables c' tables'
@@ -50,7 +51,7 @@ module _ (numbered : List ℕ → Option ℕ) (size : ℕ) (a : ℕ → Automato
   RefusedFor room text c (Text flaw) place = text_fault numbered a c.sets room text ≡ Some (flaw, place)
   RefusedFor room text c (Call why) place =
       (text_fault numbered a c.sets room text ≡ None) × (f : Claim) × ReadsAs numbered a c.sets text f
-      × RefusedAt (terms_of c records size a) holds c.count [] (all_steps c.sets f) (number_of why) place
+      × RefusedAt (terms_of c lent size a) holds c.count [] (all_steps c.sets f) (number_of why) place
 
   abbrev pub ReadsText : ℕ → List ℕ → Control → List ℕ → Control → List ℕ → Result (ℕ × ℕ) Fault → Type 0
   ReadsText room text c tables c' tables' (Ok counts) =

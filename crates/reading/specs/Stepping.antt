@@ -11,7 +11,7 @@ use Rattle.tray.specs.Refusals.{number_of}
 use Rattle.tray.specs.View.{slot, says}
 use Rattle.tray.specs.declared.control.Control.{Control}
 use Rattle.tray.specs.declared.refusal.Refusal.{Refusal}
-use Rattle.calls.specs.Lent.{lent_for}
+use Rattle.calls.specs.Lent.{Lent}
 use Rattle.calls.specs.Owed.{Terms}
 use Rattle.calls.specs.Pile.{SameMet}
 use Rattle.calls.specs.Promise.{TellEach}
@@ -24,15 +24,15 @@ use Rattle.reading.specs.Formulas.{Decided}
 use Rattle.reading.specs.declared.fault.Fault.{Fault}
 use Rattle.reading.specs.declared.fault.Reason.TheVariants.{Call as call}
 
--- the tray's call of that name answers, with so many records of each kind and eight links for each
-abbrev pub Steps : ℕ → ℕ → (ℕ → Automaton) → (ℕ → List ℕ → Type 0) → Build → Control → List ℕ → Control → List ℕ → Result (ℕ × ℕ) Refusal → Type 0
-Steps records size a holds (Place p sets places) c tables c' tables' r =
-    Places records (8 * records) size p (a p) (holds p) (take places sets) c tables c' tables' r
-Steps records size a holds (Single i) c tables c' tables' r = Singles i c tables c' tables' r
-Steps records size a holds Negate c tables c' tables' r = Negates c tables c' tables' r
-Steps records size a holds Both c tables c' tables' r = JoinsTables both-join records (8 * records) c tables c' tables' r
-Steps records size a holds Either c tables c' tables' r = JoinsTables either-join records (8 * records) c tables c' tables' r
-Steps records size a holds (Hide i) c tables c' tables' r = HidesTop records (8 * records) i c tables c' tables' r
+-- the tray's call of that name answers, with the memory that is lent
+abbrev pub Steps : Lent → ℕ → (ℕ → Automaton) → (ℕ → List ℕ → Type 0) → Build → Control → List ℕ → Control → List ℕ → Result (ℕ × ℕ) Refusal → Type 0
+Steps lent size a holds (Place p sets places) c tables c' tables' r =
+    Places lent.states lent.links size p (a p) (holds p) (take places sets) c tables c' tables' r
+Steps lent size a holds (Single i) c tables c' tables' r = Singles i c tables c' tables' r
+Steps lent size a holds Negate c tables c' tables' r = Negates c tables c' tables' r
+Steps lent size a holds Both c tables c' tables' r = JoinsTables both-join lent.pairs lent.links c tables c' tables' r
+Steps lent size a holds Either c tables c' tables' r = JoinsTables either-join lent.pairs lent.links c tables c' tables' r
+Steps lent size a holds (Hide i) c tables c' tables' r = HidesTop lent.sets lent.links i c tables c' tables' r
 
 -- the lowest tables are left, as they were
 abbrev pub Leaves : ℕ → Control → List ℕ → Control → List ℕ → Type 0
@@ -49,8 +49,8 @@ SameTray c tables c' tables' =
     SameSettings c c' × (c'.count ≡ c.count) × SameTables c.count c tables c' tables' × SameBelow c.count c tables tables'
 
 -- what making steps on this tray goes by
-abbrev pub terms_of : Control → ℕ → ℕ → (ℕ → Automaton) → Terms
-terms_of c records size a = record { sets = c.sets; budget = c.budget; depth = c.depth; lent = lent_for records; size = size; automaton = a }
+abbrev pub terms_of : Control → Lent → ℕ → (ℕ → Automaton) → Terms
+terms_of c lent size a = record { sets = c.sets; budget = c.budget; depth = c.depth; lent = lent; size = size; automaton = a }
 
 -- so is each part of a formula
 abbrev pub Sure : (ℕ → List ℕ → Type 0) → Formula → Type 0
@@ -97,14 +97,14 @@ Counted t holds (f ∷ pile) counts = Count t.sets (SameMet t.sets t.automaton h
 
 -- Where each step finds enough on the pile: all are made, and the tray holds what they make above its tables; or one is refused, and
 -- the tray is as it was.
-abbrev pub MakesSteps : ℕ → ℕ → (ℕ → Automaton) → (ℕ → List ℕ → Type 0) → List Step → Control → List ℕ → Control → List ℕ → Result (ℕ × ℕ) Fault → Type 0
-MakesSteps records size a holds steps c tables c' tables' (Ok counts) =
+abbrev pub MakesSteps : Lent → ℕ → (ℕ → Automaton) → (ℕ → List ℕ → Type 0) → List Step → Control → List ℕ → Control → List ℕ → Result (ℕ × ℕ) Fault → Type 0
+MakesSteps lent size a holds steps c tables c' tables' (Ok counts) =
     Enough 0 (map step_of steps)
-    → AllMade (terms_of c records size a) holds c.count [] (map step_of steps)
+    → AllMade (terms_of c lent size a) holds c.count [] (map step_of steps)
     × StandsAbove holds c.count c tables c' tables' (pile_after [] (map step_of steps))
-    × Counted (terms_of c records size a) holds (pile_after [] (map step_of steps)) counts
-MakesSteps records size a holds steps c tables c' tables' (Err e) =
+    × Counted (terms_of c lent size a) holds (pile_after [] (map step_of steps)) counts
+MakesSteps lent size a holds steps c tables c' tables' (Err e) =
     Enough 0 (map step_of steps)
     → (why : Refusal) × (e.reason ≡ call why)
-    × RefusedAt (terms_of c records size a) holds c.count [] (map step_of steps) (number_of why) e.place
+    × RefusedAt (terms_of c lent size a) holds c.count [] (map step_of steps) (number_of why) e.place
     × SameTray c tables c' tables'

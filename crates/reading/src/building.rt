@@ -1,22 +1,29 @@
 //! Making the steps of a claim on a tray.
 ghost use Rattle.std.specs.Prelude.{◌≡◌, ◌≤◌};
 ghost use Rattle.tray.specs.Memory.{SameMemory};
+ghost use Rattle.calls.specs.Lent.{lent_by};
 ghost use Rattle.reading.specs.Stepping.{Steps, Leaves, MakesSteps};
 
 use crate::fault::Fault;
 use books::Book;
-use calls::{Work, WorkFor};
+use calls::Work;
 use grammar::{Build, Step};
 use tray::{Refusal, Tray};
 
 // Makes one call.
-fn make_step<B: Book, const STATES: usize>(
+fn make_step<
+    B: Book,
+    const STATES: usize,
+    const PAIRS: usize,
+    const SETS: usize,
+    const LINKS: usize,
+>(
     book: &B,
     tray: &mut Tray,
-    work: &mut WorkFor<STATES>,
+    work: &mut Work<STATES, PAIRS, SETS, LINKS>,
     build: Build,
 ) -> Result<(usize, usize), Refusal>
-    ensures steps { Steps STATES (B.Book.size book.now) (B.Book.automaton book.now) (B.Book.holds book.now) build tray.old.control tray.old.tables.now tray.new.control tray.new.tables.now result }
+    ensures steps { Steps (lent_by STATES PAIRS SETS LINKS) (B.Book.size book.now) (B.Book.automaton book.now) (B.Book.holds book.now) build tray.old.control tray.old.tables.now tray.new.control tray.new.tables.now result }
     ensures owners { SameMemory tray.old tray.new }
 {
     let Work {
@@ -53,13 +60,19 @@ fn drop_to(tray: &mut Tray, count: usize)
 
 // Makes the steps in their order, and answers the counts of the last one. Where one is refused, the tables that were
 // made are removed.
-pub(crate) fn build<B: Book, const STATES: usize>(
+pub(crate) fn build<
+    B: Book,
+    const STATES: usize,
+    const PAIRS: usize,
+    const SETS: usize,
+    const LINKS: usize,
+>(
     book: &B,
     tray: &mut Tray,
-    work: &mut WorkFor<STATES>,
+    work: &mut Work<STATES, PAIRS, SETS, LINKS>,
     steps: &[Step],
 ) -> Result<(usize, usize), Fault>
-    ensures builds { MakesSteps STATES (B.Book.size book.now) (B.Book.automaton book.now) (B.Book.holds book.now) steps.now tray.old.control tray.old.tables.now tray.new.control tray.new.tables.now result }
+    ensures builds { MakesSteps (lent_by STATES PAIRS SETS LINKS) (B.Book.size book.now) (B.Book.automaton book.now) (B.Book.holds book.now) steps.now tray.old.control tray.old.tables.now tray.new.control tray.new.tables.now result }
     ensures owners { SameMemory tray.old tray.new }
 {
     let below = tray.count();
