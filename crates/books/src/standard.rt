@@ -150,7 +150,17 @@ fn rows_of(p: Predicate) -> Rows<'static>
     ensures states { result.states ≡ states p }
     ensures cells { result.cells.now ≡ rows p }
 {
-    BOOK.get(usize::from(p)).map_or(NO_ROWS, |known| known.rows)
+    // A place that is written out is looked up when the program is built; `BOOK.get(..)` would lay out the whole table for
+    // each question.
+    match p {
+        Standard::SUB => BOOK[0].rows,
+        Standard::ONE => BOOK[1].rows,
+        Standard::SUC => BOOK[2].rows,
+        Standard::LES => BOOK[3].rows,
+        Standard::SUM => BOOK[4].rows,
+        Standard::EMP => BOOK[5].rows,
+        _ => NO_ROWS,
+    }
 }
 
 impl Book for Standard {

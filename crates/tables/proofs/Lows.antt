@@ -62,6 +62,10 @@ module _ (a b : Classes) (rows : b.rows ≡ a.rows) (classes : b.class.now ≡ a
   same_settled : (c : ℕ) → Settled a c → Settled b c
   same_settled c h = rw (rows, classes) h
 
+-- what is told to be no other is the same
+pub same_unless : (fresh class : List ℕ) (found : Bool) → found ≡ not (pointwise nat_eq fresh class) → found ≡ false → class ≡ fresh
+same_unless fresh class found e f = sym ((slice_eq-Decides Decides-eqb fresh class _ refl).0 (not-false _ (sym e ∙ f)))
+
 -- the new classes of a pass
 module _ (k : Classes) (c : ℕ) (small : c < 2 ^ k.rows.places) (fresh : List ℕ)
     (lowest : (s : ℕ) → s < k.rows.states → Lowest (Alike (described k.rows).step (slice_index k.class.now) c s) (slice_index fresh s))

@@ -79,7 +79,9 @@ impl<'r, 'm> Classes<'r, 'm> {
         let class = &mut *self.class;
         let fresh = &*self.fresh;
         let split = fresh != &*class;
-        class.copy_from_slice(fresh);
+        if split {
+            class.copy_from_slice(fresh);
+        }
         split
     }
 
